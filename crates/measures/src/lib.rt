@@ -1,0 +1,3 @@
+// What a bill is measured by, and the numbers by which a call refuses.
+pub mod dial;
+pub mod refusal;
