@@ -4,7 +4,7 @@
 --   advance t p r   how far a dial that turns at t went from register p to register r
 --   Brings t p r a  the number a below t, and no other, brings such a dial from p to r
 use mathlib.Core.Path.{_≡_}
-use mathlib.Core.Bool.{Bool, true, false, cond, _&&_}
+use mathlib.Core.Bool.{cond, _&&_}
 use Prim.Native.Nat.{ℕ, _+_, _-_, _%_, _^_, _<_, _≤_}
 use lib.Dec.{eqb, leb, ltb}
 use Rattle.std.specs.declared.result.Result.{Result}

@@ -1,2 +1,4 @@
 pub mod Refusals
 pub mod Dial
+pub mod Rate
+pub mod Entry

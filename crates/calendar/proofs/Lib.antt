@@ -1,0 +1,3 @@
+pub mod Months
+pub mod Walk
+pub mod Seasons
