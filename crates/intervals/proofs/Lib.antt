@@ -1,0 +1,5 @@
+pub mod Marks
+pub mod Steps
+pub mod Weights
+pub mod Known
+pub mod Filling
