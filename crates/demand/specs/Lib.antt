@@ -1,0 +1,4 @@
+pub mod Readings
+pub mod Questions
+pub mod Answers
+pub mod Demand
