@@ -1,0 +1,11 @@
+pub mod Runs
+pub mod Checks
+pub mod Corrections
+pub mod Totals
+pub mod Outcomes
+pub mod Owning
+pub mod Words
+pub mod Standing
+pub mod Bills
+pub mod Histories
+pub mod Plays
