@@ -1,0 +1,4 @@
+pub mod Lines
+pub mod Notices
+pub mod Sections
+pub mod Texts
