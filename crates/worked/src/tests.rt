@@ -150,6 +150,32 @@ fn refusals_of_calls(rt: LibcRuntime) -> Result<(), Fail> {
     check(book[0].kind == Kind::Corrected)
 }
 
+// A file with refused calls between the accepted ones stands where one with the accepted ones alone does.
+#[test]
+fn refusals_change_nothing(rt: LibcRuntime) -> Result<(), Fail> {
+    let mut book = [BLANK; 3];
+    let mut other_book = book;
+    let mut file = PremiseFile::open(standard_method(), ByHalf, Rate::E12, 4, 100, 0, 7, &book)?;
+    let mut other = PremiseFile::open(standard_method(), ByHalf, Rate::E12, 4, 100, 0, 7, &book)?;
+    check_eq(file.read(&mut book, 130, 10_000), Err(3))?;
+    check_eq(file.miss(&mut book, 200), Err(12))?;
+    check_eq(file.move_in(0), Err(4))?;
+    check(book == [BLANK; 3])?;
+    check_eq(file.miss(&mut book, 130), Ok((3, 7, 750)))?;
+    check_eq(other.miss(&mut other_book, 130), Ok((3, 7, 750)))?;
+    check_eq(file.move_in(8), Err(16))?;
+    check_eq(file.read(&mut book, 130, 10), Err(12))?;
+    check(book == other_book)?;
+    check_eq(file.open_sum(&book), other.open_sum(&other_book))?;
+    check_eq(file.read(&mut book, 160, 10), Ok((1, 5, 1)))?;
+    check_eq(other.read(&mut other_book, 160, 10), Ok((1, 5, 1)))?;
+    check_eq(file.move_in(7), Err(17))?;
+    check(book == other_book)?;
+    check_eq(settled_alike(&file, &book, &other, &other_book), Ok(true))?;
+    check_eq(file.miss(&mut book, 190), other.miss(&mut other_book, 190))?;
+    check(book == other_book)
+}
+
 #[test]
 fn no_answer_and_past_the_dial(rt: LibcRuntime) -> Result<(), Fail> {
     let mut book = [BLANK; 3];
