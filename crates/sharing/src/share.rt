@@ -17,9 +17,9 @@ pub const MOST_WEIGHT: u32 = 1_000_000;
 
 // Shares a total out over the records that take part, each by its weight; the others stay as they are.
 pub fn share_out<R: Shares>(total: u32, records: &mut [R]) -> Result<(), u8>
-    ensures answer { result ≡ verdict part weighs total records.old }
-    ensures after { records.new ≡ (if is_ok result then shared part weighs given total records.old else records.old) }
-    ensures promise { is_ok result ≡ true → SharedOut part weighs holds total records.old records.new }
+    ensures answer { result ≡ verdict R.part R.weighs total records.old }
+    ensures after { records.new ≡ (if is_ok result then shared R.part R.weighs R.given total records.old else records.old) }
+    ensures promise { is_ok result ≡ true → SharedOut R.part R.weighs R.holds total records.old records.new }
 {
     if total > MOST_TOTAL || records.len() > MOST_RECORDS {
         return Err(refusal::SHARING_LIMITS);
@@ -37,7 +37,7 @@ pub fn share_out<R: Shares>(total: u32, records: &mut [R]) -> Result<(), u8>
 // The sum of the weights that take part; none where one of them is beyond its limit.
 fn weigh<R: Shares>(records: &[R]) -> Option<u64>
     requires { length records.now ≤ 3360 }
-    ensures { result ≡ weighed part weighs records.now }
+    ensures { result ≡ weighed R.part R.weighs records.now }
 {
     let mut sum: u64 = 0;
     for record in records {
@@ -55,9 +55,9 @@ fn weigh<R: Shares>(records: &[R]) -> Option<u64>
 // Gives each record that takes part its share of a total; `all` is the sum of their weights.
 fn give<R: Shares>(total: u32, all: u64, records: &mut [R])
     requires total { total ≤ 1000000000 }
-    requires weights { all ≡ sum_of part weighs records.old }
+    requires weights { all ≡ sum_of R.part R.weighs records.old }
     requires limit { all ≤ 3360000000 }
-    ensures { records.new ≡ shared part weighs given total records.old }
+    ensures { records.new ≡ shared R.part R.weighs R.given total records.old }
 {
     let mut weighed: u64 = 0;
     let mut handed: u32 = 0;

@@ -3,17 +3,17 @@ use Rattle.calendar.proofs.Months.{month_none}
 use Rattle.calendar.proofs.Walk.{reached_start, reached_next, reached_end}
 use Rattle.calendar.proofs.month_of.Goals as goal
 
-pub returns-then-day-gt-LAST-DAY : goal.returns-then-day-gt-LAST-DAY
-returns-then-day-gt-LAST-DAY c = record { answer = sym (month_none c.args.day (omega arith)); within = omega arith }
+pub returns-then-day-gt-LAST_DAY : goal.returns-then-day-gt-LAST_DAY
+returns-then-day-gt-LAST_DAY c = record { answer = sym (month_none c.args.day (omega arith)); within = omega arith }
 
 pub loop-i-init : goal.loop-i-init
-loop-i-init c = reached_start c.month-lengths-lengths.result c.args.day c.month-lengths-lengths.ensures
+loop-i-init c = reached_start c.month_lengths-lengths.result c.args.day c.month_lengths-lengths.ensures
 
 pub loop-i-preserved : goal.loop-i-preserved
 loop-i-preserved c =
-    reached_next c.month-lengths-lengths.result c.args.day (c.args.day / 1461) c.loop-i.i c.loop-i.left c.month-lengths-lengths.ensures
+    reached_next c.month_lengths-lengths.result c.args.day (c.args.day / 1461) c.loop-i.i c.loop-i.left c.month_lengths-lengths.ensures
     c.loop-i-test.true (omega arith) c.loop-i.invariant
 
 pub unreachable-requires : goal.unreachable-requires
 unreachable-requires c =
-    reached_end c.month-lengths-lengths.result c.args.day c.loop-i.i c.loop-i.left c.loop-i-test.false c.loop-i.auto.i-end c.loop-i.invariant
+    reached_end c.month_lengths-lengths.result c.args.day c.loop-i.i c.loop-i.left c.loop-i-test.false c.loop-i.auto.i-end c.loop-i.invariant

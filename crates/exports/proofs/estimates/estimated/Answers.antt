@@ -5,5 +5,5 @@ use Rattle.exports.proofs.estimates.estimated.Goals as goal
 pub returns-in-Some : goal.returns-in-Some
 returns-in-Some c =
     let a = c.args in
-    let fits = estimate_fits a.kwh a.days a.usage_days_of c.if-kwh-gt-MOST-KWH.false (omega (arith, c.ranges.usage_days_of.fits)) in
+    let fits = estimate_fits a.kwh a.days a.usage_days c.if-kwh-gt-MOST_KWH.false (omega (arith, c.ranges.usage_days.fits)) in
     record { value = search rules; few = search (rules, fits) }

@@ -30,24 +30,24 @@ more c =
     let i = c.loop-b.b-index in
     omega (arith, value_step bs i c.loop-b-test.true (at_digit c), digit_is (get_or bs i 0) (at_digit c), c.loop-b.invariant.0)
 
-pub returns-in-err-checked-mul : goal.returns-in-err-checked-mul
-returns-in-err-checked-mul c =
-    let p = (goal.at.returns-in-err-checked-mul c).Else-b-gt57 in
-    rw c.from-residual.ensures (λ n small e.
-    omega (arith, more p, (at_digit p).0, front_within c.args.field.now n small e (c.loop-b.b-index + 1), c.in-err-checked-mul.ensures))
+pub returns-in_err-checked_mul : goal.returns-in_err-checked_mul
+returns-in_err-checked_mul c =
+    let p = (goal.at.returns-in_err-checked_mul c).Else-b-gt57 in
+    rw c.from_residual.ensures (λ n small e.
+    omega (arith, more p, (at_digit p).0, front_within c.args.field.now n small e (c.loop-b.b-index + 1), c.in_err-checked_mul.ensures))
 
-pub returns-in-err-number : goal.returns-in-err-number
-returns-in-err-number c =
-    let p = (goal.at.returns-in-err-number c).Else-b-gt57 in
-    rw c.from-residual-in-err-number.ensures (λ n small e.
-    omega (arith, more p, (at_digit p).0, front_within c.args.field.now n small e (c.loop-b.b-index + 1), c.in-ok-checked-mul.ensures, c.in-err-number.ensures))
+pub returns-in_err-number : goal.returns-in_err-number
+returns-in_err-number c =
+    let p = (goal.at.returns-in_err-number c).Else-b-gt57 in
+    rw c.from_residual-in_err-number.ensures (λ n small e.
+    omega (arith, more p, (at_digit p).0, front_within c.args.field.now n small e (c.loop-b.b-index + 1), c.in_ok-checked_mul.ensures, c.in_err-number.ensures))
 
 pub loop-b-preserved : goal.loop-b-preserved
 loop-b-preserved c =
     let p = (goal.at.loop-b-preserved c).Else-b-gt57 in
     let bs = c.args.field.now in
     let i = c.loop-b.b-index in
-    (omega (arith, more p, (at_digit p).0, c.in-ok-checked-mul.ensures, c.in-ok-number.ensures), digits_step bs i c.loop-b-test.true c.loop-b.invariant.1 (at_digit p), omega (arith, c.in-ok-number.ensures))
+    (omega (arith, more p, (at_digit p).0, c.in_ok-checked_mul.ensures, c.in_ok-number.ensures), digits_step bs i c.loop-b-test.true c.loop-b.invariant.1 (at_digit p), omega (arith, c.in_ok-number.ensures))
 
 pub returns : goal.returns
 returns c =

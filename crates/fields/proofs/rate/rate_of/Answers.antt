@@ -5,17 +5,17 @@ use Rattle.fields.specs.Rates.{rates, named_among}
 use Rattle.fields.proofs.Named.{named_here, named_later, names}
 use Rattle.fields.proofs.rate.rate_of.Goals as goal
 
-pub returns-then-is-text : goal.returns-then-is-text
-returns-then-is-text c =
+pub returns-then-is_text : goal.returns-then-is_text
+returns-then-is_text c =
     let bs = c.args.field.now in
-    let t = ap (bytes_eq bs) (sym (c.as-bytes.ensures.value ∙ c.name.ensures.answer)) ∙ sym c.if-is-text.ensures in
+    let t = ap (bytes_eq bs) (sym (c.as_bytes.ensures.value ∙ c.name.ensures.answer)) ∙ sym c.if-is_text.ensures in
     let e = sym (named_here bs c.loop-i.i c.loop-i-test.true t) ∙ c.loop-i.invariant in
     record { answer = e; name = names bs _ e }
 
 pub loop-i-preserved : goal.loop-i-preserved
 loop-i-preserved c =
     let bs = c.args.field.now in
-    let t = ap (bytes_eq bs) (sym (c.as-bytes.ensures.value ∙ c.name.ensures.answer)) ∙ sym c.if-is-text.ensures in
+    let t = ap (bytes_eq bs) (sym (c.as_bytes.ensures.value ∙ c.name.ensures.answer)) ∙ sym c.if-is_text.ensures in
     sym (named_later bs c.loop-i.i c.loop-i-test.true t) ∙ c.loop-i.invariant
 
 pub returns : goal.returns

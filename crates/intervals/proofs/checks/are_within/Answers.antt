@@ -4,13 +4,13 @@ use Rattle.intervals.specs.Intervals.{every}
 use Rattle.intervals.proofs.Steps.{every_yes, every_no}
 use Rattle.intervals.proofs.checks.are_within.Goals as goal
 
-pub returns-then-not-is-within : goal.returns-then-not-is-within
-returns-then-not-is-within c =
-    sym (every_no (λ v. leb v 1000000) c.args.values.now c.loop-value.value-index 0 c.loop-value-test.true (sym c.if-not-is-within.ensures)) ∙ c.loop-value.invariant
+pub returns-then-not-is_within : goal.returns-then-not-is_within
+returns-then-not-is_within c =
+    sym (every_no (λ v. leb v 1000000) c.args.values.now c.loop-value.value-index 0 c.loop-value-test.true (sym c.if-not-is_within.ensures)) ∙ c.loop-value.invariant
 
 pub loop-value-preserved : goal.loop-value-preserved
 loop-value-preserved c =
-    sym (every_yes (λ v. leb v 1000000) c.args.values.now c.loop-value.value-index 0 c.loop-value-test.true (sym c.if-not-is-within.ensures)) ∙ c.loop-value.invariant
+    sym (every_yes (λ v. leb v 1000000) c.args.values.now c.loop-value.value-index 0 c.loop-value-test.true (sym c.if-not-is_within.ensures)) ∙ c.loop-value.invariant
 
 pub returns : goal.returns
 returns c =

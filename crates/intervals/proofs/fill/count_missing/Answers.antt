@@ -13,7 +13,7 @@ flag false c e = (ap (λ (d : Bool). cond {A = ℕ} d 1 0) e, omega arith)
 pub loop-interval-preserved : goal.loop-interval-preserved
 loop-interval-preserved c =
     let s = at_drop_more missing_in c.args.intervals.now c.loop-interval.interval-index blank c.loop-interval-test.true in
-    let one = flag _ _ c.is-missing.ensures.answer in
+    let one = flag _ _ c.is_missing.ensures.answer in
     (omega (arith, one.0, s, c.loop-interval.invariant.0), omega (arith, one.1, c.loop-interval.invariant.1))
 
 pub returns : goal.returns

@@ -4,13 +4,13 @@ use Rattle.intervals.specs.Intervals.{weighed_from}
 use Rattle.intervals.proofs.Weights.{usable_at, weigh_more}
 use Rattle.intervals.proofs.fill.weigh.Goals as goal
 
-pub weigh-one-requires : goal.weigh-one-requires
-weigh-one-requires c = usable_at _ _ _ c.loop-place.auto.place-end c.requires
+pub weigh_one-requires : goal.weigh_one-requires
+weigh_one-requires c = usable_at _ _ _ c.loop-place.auto.place-end c.requires
 
 pub loop-place-preserved : goal.loop-place-preserved
 loop-place-preserved c =
     let lt : c.loop-place.place < length c.loop-place.intervals = omega arith in
-    weigh_more c.args.month.now c.loop-place.intervals c.loop-place.place _ lt c.weigh-one.new.interval c.weigh-one.ensures ∙ c.loop-place.invariant
+    weigh_more c.args.month.now c.loop-place.intervals c.loop-place.place _ lt c.weigh_one.new.interval c.weigh_one.ensures ∙ c.loop-place.invariant
 
 pub returns : goal.returns
 returns c =

@@ -4,7 +4,7 @@ use Rattle.lookup.specs.declared.six.Six.{Six}
 use Rattle.ladder.specs.Meanings.{six_kwh_few}
 use Rattle.ladder.proofs.rungs.by_season.Goals as goal
 
-pub overflow-cast-result : goal.overflow-cast-result
-overflow-cast-result c =
-    let few = six_kwh_few (λ (e : Entry). e.customer) (λ e. e.end_day) (λ e. e.usage_days) (λ e. e.kwh) c.args.whose c.args.question.now.customer c.in-ok-season.season c.args.book.now in
-    omega (arith, few, ap (λ (s : Six). s.kwh) c.seasonal-sum-six.ensures.answer)
+pub overflow_cast-result : goal.overflow_cast-result
+overflow_cast-result c =
+    let few = six_kwh_few (λ (e : Entry). e.customer) (λ e. e.end_day) (λ e. e.usage_days) (λ e. e.kwh) c.args.whose c.args.question.now.customer c.in_ok-season.season c.args.book.now in
+    omega (arith, few, ap (λ (s : Six). s.kwh) c.seasonal_sum-six.ensures.answer)

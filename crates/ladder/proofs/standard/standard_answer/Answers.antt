@@ -7,5 +7,5 @@ pub returns : goal.returns
 returns c =
     let book = c.args.book.now in
     let q = c.args.question.now in
-    let e : c.answer.result ≡ standard book q = c.answer.ensures ∙ in_turn_standard c.standard-method.result book q c.standard-method.ensures.answer in
+    let e : c.answer.result ≡ standard book q = c.answer.ensures ∙ in_turn_standard c.standard_method.result book q c.standard_method.ensures.answer in
     record { answer = e; ladder = standard_law book q c.answer.result e }

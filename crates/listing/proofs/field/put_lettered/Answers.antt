@@ -4,4 +4,4 @@ use Rattle.listing.proofs.Puts.{put_then}
 use Rattle.listing.proofs.field.put_lettered.Goals as goal
 
 pub returns : goal.returns
-returns c = put_then c.args.at (c.args.letter ∷ []) (fields c.args.numbers.now) c.args.buffer.now c.put-byte-end.new.buffer c.put-fields.new.buffer c.put-byte-end.result c.put-fields.result (omega (arith, c.requires)) c.put-byte-end.ensures c.put-fields.ensures
+returns c = put_then c.args.at (c.args.letter ∷ []) (fields c.args.numbers.now) c.args.buffer.now c.put_byte-end.new.buffer c.put_fields.new.buffer c.put_byte-end.result c.put_fields.result (omega (arith, c.requires)) c.put_byte-end.ensures c.put_fields.ensures

@@ -6,8 +6,8 @@ use Rattle.listing.proofs.Lines.{put_line, times_more, room_for_one}
 use Rattle.listing.proofs.Puts.{put_none}
 use Rattle.listing.proofs.line.put_lines.Goals as goal
 
-pub put-line-end-requires : goal.put-line-end-requires
-put-line-end-requires g c = omega (arith, c.requires, c.loop-record.invariant.1, c.loop-record.auto.buffer, room_for_one g.L.Listed.longest c.loop-record.record-index (length c.args.records.now) c.loop-record-test.true)
+pub put_line-end-requires : goal.put_line-end-requires
+put_line-end-requires g c = omega (arith, c.requires, c.loop-record.invariant.1, c.loop-record.auto.buffer, room_for_one g.L.Listed.longest c.loop-record.record-index (length c.args.records.now) c.loop-record-test.true)
 
 pub loop-record-preserved : goal.loop-record-preserved
 loop-record-preserved g c =
@@ -15,8 +15,8 @@ loop-record-preserved g c =
     let xs = c.args.records.now in
     let i = c.loop-record.record-index in
     let room = room_for_one m.longest i (length xs) c.loop-record-test.true in (
-      λ r d rest. c.loop-record.invariant.0 r d (put_line m.line xs i c.record-item.result c.record-item.is c.loop-record-test.true c.loop-record.end c.put-line-end.result r c.loop-record.buffer c.put-line-end.new.buffer d (omega (arith, c.requires, c.loop-record.invariant.1, c.loop-record.auto.buffer, room)) c.put-line-end.ensures.text rest),
-      omega (arith, c.loop-record.invariant.1, c.put-line-end.ensures.few, times_more m.longest i),
+      λ r d rest. c.loop-record.invariant.0 r d (put_line m.line xs i c.record-item.result c.record-item.is c.loop-record-test.true c.loop-record.end c.put_line-end.result r c.loop-record.buffer c.put_line-end.new.buffer d (omega (arith, c.requires, c.loop-record.invariant.1, c.loop-record.auto.buffer, room)) c.put_line-end.ensures.text rest),
+      omega (arith, c.loop-record.invariant.1, c.put_line-end.ensures.few, times_more m.longest i),
     )
 
 pub returns : goal.returns

@@ -4,8 +4,8 @@ use Rattle.listing.proofs.Numbers.{last_digit, one_more, some_digit, lone_digit,
 use Rattle.listing.proofs.Puts.{byte_before, set_overlay}
 use Rattle.listing.proofs.put.put_number.Goals as goal
 
-pub overflow-sub-place : goal.overflow-sub-place
-overflow-sub-place c = omega (arith, c.loop-rest.invariant.1, some_digit c.loop-rest.rest c.loop-rest.invariant.3)
+pub overflow_sub-place : goal.overflow_sub-place
+overflow_sub-place c = omega (arith, c.loop-rest.invariant.1, some_digit c.loop-rest.rest c.loop-rest.invariant.3)
 
 pub bounds-buffer-place : goal.bounds-buffer-place
 bounds-buffer-place c = omega (arith, c.loop-rest.invariant.1, c.loop-rest.invariant.2, some_digit c.loop-rest.rest c.loop-rest.invariant.3)
@@ -37,6 +37,6 @@ returns c =
     let rest = c.loop-rest.rest in
     let lone = lone_digit rest c.loop-rest-test.false in
     record {
-      end = ap (λ k. at + k) c.count-digits.ensures;
+      end = ap (λ k. at + k) c.count_digits.ensures;
       bytes = set_overlay at (48 + rest) b (omega (arith, c.loop-rest.invariant.1, c.loop-rest.invariant.2, ap length lone)) ∙ ap (λ (t : List ℕ). overlay at t b) (sym lone) ∙ c.loop-rest.invariant.0;
     }

@@ -10,4 +10,4 @@ returns c =
     let t = c.args.text.now in
     let b = c.args.buffer.now in
     let p : Put at t b (at + length t) (put_mid at (at + length t - at) b t) = put_mid at t b in
-    subst (λ (x : List ℕ). Put at t b (at + length t) (put_mid at (at + length t - at) b x)) (sym c.copy-from-slice.ensures.after) p
+    subst (λ (x : List ℕ). Put at t b (at + length t) (put_mid at (at + length t - at) b x)) (sym c.copy_from_slice.ensures.after) p

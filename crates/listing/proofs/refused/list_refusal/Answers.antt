@@ -8,8 +8,8 @@ use Rattle.listing.proofs.Listings.{put_in_front}
 use Rattle.listing.proofs.Puts.{put_then}
 use Rattle.listing.proofs.refused.list_refusal.Goals as goal
 
-pub put-lettered-requires : goal.put-lettered-requires
-put-lettered-requires c = omega (arith, c.if-buffer-lt-LEAST-BUFFER.false, c.put-text-end.ensures.end, c.put-text-end.auto.buffer, place_few c.args.notice.line c.args.notice.field c.args.notice.number (omega arith) (omega arith) (omega arith))
+pub put_lettered-requires : goal.put_lettered-requires
+put_lettered-requires c = omega (arith, c.if-buffer-lt-LEAST_BUFFER.false, c.put_text-end.ensures.end, c.put_text-end.auto.buffer, place_few c.args.notice.line c.args.notice.field c.args.notice.number (omega arith) (omega arith) (omega arith))
 
 pub returns : goal.returns
 returns c =
@@ -17,12 +17,12 @@ returns c =
     let n = a.notice in
     let few = place_few n.line n.field n.number (omega arith) (omega arith) (omega arith) in
     let ns = n.line ∷ n.field ∷ n.number ∷ [] in
-    let written = put_then 0 (88 ∷ 32 ∷ []) (c.letter-of.result ∷ fields ns) a.buffer.now c.put-text-end.new.buffer c.put-lettered.new.buffer c.put-text-end.result c.put-lettered.result (omega arith) c.put-text-end.ensures c.put-lettered.ensures in
-    let whole : Put 0 (notice_line n) a.buffer.now c.put-lettered.result c.put-lettered.new.buffer
-    = subst (λ (t : List ℕ). Put 0 (88 ∷ 32 ∷ (t ++ fields ns)) a.buffer.now c.put-lettered.result c.put-lettered.new.buffer) c.letter-of.ensures written in
-    let end : c.put-lettered.result ≡ length (notice_line n) = omega (arith, whole.end) in
+    let written = put_then 0 (88 ∷ 32 ∷ []) (c.letter_of.result ∷ fields ns) a.buffer.now c.put_text-end.new.buffer c.put_lettered.new.buffer c.put_text-end.result c.put_lettered.result (omega arith) c.put_text-end.ensures c.put_lettered.ensures in
+    let whole : Put 0 (notice_line n) a.buffer.now c.put_lettered.result c.put_lettered.new.buffer
+    = subst (λ (t : List ℕ). Put 0 (88 ∷ 32 ∷ (t ++ fields ns)) a.buffer.now c.put_lettered.result c.put_lettered.new.buffer) c.letter_of.ensures written in
+    let end : c.put_lettered.result ≡ length (notice_line n) = omega (arith, whole.end) in
     record {
-      answer = ap Ok end ∙ sym (cond-false _ _ _ (le-ltb (length a.buffer.now) 16384 c.if-buffer-lt-LEAST-BUFFER.false));
-      after = put_in_front (notice_line n) a.buffer.now c.put-lettered.new.buffer c.put-lettered.result whole;
+      answer = ap Ok end ∙ sym (cond-false _ _ _ (le-ltb (length a.buffer.now) 16384 c.if-buffer-lt-LEAST_BUFFER.false));
+      after = put_in_front (notice_line n) a.buffer.now c.put_lettered.new.buffer c.put_lettered.result whole;
       room = omega (arith, written.end, few);
     }

@@ -16,15 +16,15 @@ loop-i-init g c =
 
 -- with one more that passes
 added : (g : Over) (c : goal.After-kwh g) →
-    record { count = c.loop-i.six.count + 1; usage_days = c.loop-i.six.usage_days + c.usage_days_of.result; kwh = c.loop-i.six.kwh + c.kwh.result }
+    record { count = c.loop-i.six.count + 1; usage_days = c.loop-i.six.usage_days + c.usage_days.result; kwh = c.loop-i.six.kwh + c.kwh.result }
     ≡ sum_up g.R.TellsUse.used g.R.TellsUse.metered (filter (g.F.Fit.fits c.args.fit.now) (drop (c.loop-i.i - 1) c.args.book.now))
 added g c =
     sum_yes (g.F.Fit.fits c.args.fit.now) g.R.TellsUse.used g.R.TellsUse.metered c.args.book.now c.loop-i.i c.index-book-i.result c.loop-i.six
-    c.usage_days_of.result c.kwh.result (omega arith) (omega arith) c.index-book-i.is (sym c.if-fit.ensures) c.usage_days_of.ensures c.kwh.ensures c.loop-i.invariant.0
+    c.usage_days.result c.kwh.result (omega arith) (omega arith) c.index-book-i.is (sym c.if-fit.ensures) c.usage_days.ensures c.kwh.ensures c.loop-i.invariant.0
 
 pub returns-then-six-eq-SIX : goal.returns-then-six-eq-SIX
 returns-then-six-eq-SIX g c =
-    let s : Six = record { count = c.loop-i.six.count + 1; usage_days = c.loop-i.six.usage_days + c.usage_days_of.result; kwh = c.loop-i.six.kwh + c.kwh.result } in
+    let s : Six = record { count = c.loop-i.six.count + 1; usage_days = c.loop-i.six.usage_days + c.usage_days.result; kwh = c.loop-i.six.kwh + c.kwh.result } in
     let e = added g (goal.at.returns-then-six-eq-SIX g c).After-kwh in
     let six : c.loop-i.six.count + 1 ≡ 6 = omega arith in
     record {

@@ -7,8 +7,8 @@ use Rattle.shareout.proofs.months.sum.Goals as goal
 more : (c : goal.After-row-known·1) → kwh_of (drop c.loop-month.month-index c.args.months.now) ≡ (get_or c.args.months.now c.loop-month.month-index (record { usage_days = 0; kwh = 0 })).kwh + kwh_of (drop (c.loop-month.month-index + 1) c.args.months.now)
 more c = at_drop_more kwh_of c.args.months.now c.loop-month.month-index (record { usage_days = 0; kwh = 0 }) c.loop-month-test.true
 
-pub overflow-add-sum : goal.overflow-add-sum
-overflow-add-sum c = omega (arith, more c, c.loop-month.invariant)
+pub overflow_add-sum : goal.overflow_add-sum
+overflow_add-sum c = omega (arith, more c, c.loop-month.invariant)
 
 pub loop-month-preserved : goal.loop-month-preserved
 loop-month-preserved c = omega (arith, more c, c.loop-month.invariant)

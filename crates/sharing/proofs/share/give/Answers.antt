@@ -16,15 +16,15 @@ loop-r-init g c =
 within : (g : Over) (c : goal.After-weight-weight g) → c.loop-r.weighed + c.weight-weight.result ≤ c.args.all
 within g c =
     let m = g.R.Shares in
-    let s = left_yes m.part m.weighs c.loop-r.records c.loop-r.r-index c.r-item.result (omega arith) (sym c.takes-part-due.ensures ∙ c.if-due.true) in
+    let s = left_yes m.part m.weighs c.loop-r.records c.loop-r.r-index c.r-item.result (omega arith) (sym c.takes_part-due.ensures ∙ c.if-due.true) in
     omega (arith, c.loop-r.invariant.1, s, c.weight-weight.ensures)
 
-pub running-total-up-to-requires : goal.running-total-up-to-requires
-running-total-up-to-requires g c = record { total = c.requires.total; part = within g c; limit = c.requires.limit }
+pub running_total-up_to-requires : goal.running_total-up_to-requires
+running_total-up_to-requires g c = record { total = c.requires.total; part = within g c; limit = c.requires.limit }
 
-pub overflow-sub-up-to : goal.overflow-sub-up-to
-overflow-sub-up-to g c =
-    omega (arith, running_up c.args.total c.args.all c.loop-r.weighed (c.loop-r.weighed + c.weight-weight.result) (omega arith), c.loop-r.invariant.2, c.running-total-up-to.ensures)
+pub overflow_sub-up_to : goal.overflow_sub-up_to
+overflow_sub-up_to g c =
+    omega (arith, running_up c.args.total c.args.all c.loop-r.weighed (c.loop-r.weighed + c.weight-weight.result) (omega arith), c.loop-r.invariant.2, c.running_total-up_to.ensures)
 
 pub loop-r-preserved : goal.loop-r-preserved
 loop-r-preserved g c =
@@ -35,15 +35,15 @@ loop-r-preserved g c =
     let lt : i < length xs = omega arith in
     elim c.if-due.branch [
       | then-due w ↦
-          let p : m.part (get_or xs i x) ≡ true = sym c.takes-part-due.ensures ∙ w.if-due.true in
-          let q : w.take-share.new.self ≡ m.given (get_or xs i x) (running c.args.total c.args.all (c.loop-r.weighed + m.weighs (get_or xs i x)) - running c.args.total c.args.all c.loop-r.weighed) = cc in
-          let a = shared_yes m.part m.weighs m.given c.args.total c.args.all xs i x c.loop-r.weighed w.take-share.new.self lt p q in
-          let e = drop-set-lt (i + 1) xs i w.take-share.new.self (omega arith) in
+          let p : m.part (get_or xs i x) ≡ true = sym c.takes_part-due.ensures ∙ w.if-due.true in
+          let q : w.take_share.new.self ≡ m.given (get_or xs i x) (running c.args.total c.args.all (c.loop-r.weighed + m.weighs (get_or xs i x)) - running c.args.total c.args.all c.loop-r.weighed) = cc in
+          let a = shared_yes m.part m.weighs m.given c.args.total c.args.all xs i x c.loop-r.weighed w.take_share.new.self lt p q in
+          let e = drop-set-lt (i + 1) xs i w.take_share.new.self (omega arith) in
           let s = left_yes m.part m.weighs xs i x lt p in
           let d : drop (i + 1) c.if-due.records ≡ drop (i + 1) xs = cc in
           (cc, omega (arith, c.loop-r.invariant.1, s, ap (sum_of m.part m.weighs) d), cc)
       | else-due w ↦
-          let p : m.part (get_or xs i x) ≡ false = sym c.takes-part-due.ensures ∙ w.if-due.false in
+          let p : m.part (get_or xs i x) ≡ false = sym c.takes_part-due.ensures ∙ w.if-due.false in
           let a = shared_no m.part m.weighs m.given c.args.total c.args.all xs i x c.loop-r.weighed lt p in
           let s = left_no m.part m.weighs xs i x lt p in
           let r : c.if-due.records ≡ xs = w.records-is ∙ set-get_or xs i x in

@@ -2,8 +2,8 @@ use Rattle.std.proofs.Common.{arith, rules}
 use Rattle.listing.proofs.Lines.{read_few, miss_few}
 use Rattle.listing.proofs.line.HappeningListed.put_line.Goals as goal
 
-pub put-lettered-requires : goal.put-lettered-requires
-put-lettered-requires c =
+pub put_lettered-requires : goal.put_lettered-requires
+put_lettered-requires c =
     let a = c.in-Read-default-default-Ok in
     omega (arith, c.requires, read_few a.kind a.kwh a.corrected (omega arith) (omega arith) (omega arith))
 
@@ -15,9 +15,9 @@ put_lettered_requires_in_Miss_default_Ok c =
 pub returns-in-Read-default-default-Ok : goal.returns-in-Read-default-default-Ok
 returns-in-Read-default-default-Ok c =
     let a = c.in-Read-default-default-Ok in
-    record { text = search rules; few = omega (arith, c.put-lettered.ensures.end, read_few a.kind a.kwh a.corrected (omega arith) (omega arith) (omega arith)) }
+    record { text = search rules; few = omega (arith, c.put_lettered.ensures.end, read_few a.kind a.kwh a.corrected (omega arith) (omega arith) (omega arith)) }
 
 pub returns-in-Miss-default-Ok : goal.returns-in-Miss-default-Ok
 returns-in-Miss-default-Ok c =
     let a = c.in-Miss-default-Ok in
-    record { text = search rules; few = omega (arith, c.put-lettered-in-Miss-default-Ok.ensures.end, miss_few a.kind a.rung a.kwh (omega arith) (omega arith) (omega arith)) }
+    record { text = search rules; few = omega (arith, c.put_lettered-in-Miss-default-Ok.ensures.end, miss_few a.kind a.rung a.kwh (omega arith) (omega arith) (omega arith)) }

@@ -9,5 +9,5 @@ estimated-requires g c =
     record {
       fits = c.requires.fits;
       period = c.requires.period;
-      lawful = g.met.M.EnergyMethod.lawful f.method (take (c.in-use-count.result - 0) c.args.book.now) (question f c.args.day) c.in-Some.basis (sym c.in-Some.ensures);
+      lawful = g.met.M.EnergyMethod.lawful f.method (take (c.in_use-count.result - 0) c.args.book.now) (question f c.args.day) c.in-Some.basis (sym c.in-Some.ensures);
     }

@@ -8,10 +8,10 @@ returns g c =
     let h = g.J.Judgement.higher in
     let f = c.args.self.now in
     let b = c.args.book.now in
-    let f' = c.play-all.new.self in
-    let b' = c.play-all.new.book in
+    let f' = c.play_all.new.self in
+    let b' = c.play_all.new.book in
     record {
-      answer = c.play-all.ensures;
-      lived = made_by c.play-all.result _ _ _ c.play-all.ensures (λ v e. play_lived t h c.args.calls.now f b (vec_items v) f' b' e);
-      history = made_by c.play-all.result _ _ _ c.play-all.ensures (λ v e. play_keeps t h f b (vec_items v) f' b' (play_lived t h c.args.calls.now f b (vec_items v) f' b' e));
+      answer = c.play_all.ensures;
+      lived = made_by c.play_all.result _ _ _ c.play_all.ensures (λ v e. play_lived t h c.args.calls.now f b (vec_items v) f' b' e);
+      history = made_by c.play_all.result _ _ _ c.play_all.ensures (λ v e. play_keeps t h f b (vec_items v) f' b' (play_lived t h c.args.calls.now f b (vec_items v) f' b' e));
     }

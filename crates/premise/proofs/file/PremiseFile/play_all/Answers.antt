@@ -11,12 +11,12 @@ loop-call-preserved g c =
     let t = g.M.Method.table in
     let h = g.J.Judgement.higher in
     let l = c.loop-call in
-    let p = c.play-one-happening in (
-      ap (λ (x : List Happening). joined x (played t h (drop (l.call-index + 1) c.args.calls.now) p.new.self p.new.book)) c.push-reserved.ensures.items
+    let p = c.play_one-happening in (
+      ap (λ (x : List Happening). joined x (played t h (drop (l.call-index + 1) c.args.calls.now) p.new.self p.new.book)) c.push_reserved.ensures.items
           ∙ played_more t h c.args.calls.now l.call-index (Read 0 0) (vec_items l.happened) l.self l.book p.result p.new.self p.new.book c.loop-call-test.true p.ensures
           ∙ l.invariant.0,
-      omega (arith, l.invariant.1, c.push-reserved.ensures.len),
-      omega (arith, l.invariant.2, c.push-reserved.ensures.capacity),
+      omega (arith, l.invariant.1, c.push_reserved.ensures.len),
+      omega (arith, l.invariant.2, c.push_reserved.ensures.capacity),
     )
 
 pub returns : goal.returns

@@ -3,6 +3,6 @@ use Rattle.premise.proofs.file.PremiseFile.read.Goals as goal
 
 pub returns : goal.returns
 returns g c = record {
-  meaning = c.close-read.ensures;
-  history = λ f0 b0 es o l. law_next g.M.Method.table g.J.Judgement.higher f0 b0 es _ _ _ _ _ o l c.close-read.ensures;
+  meaning = c.close_read.ensures;
+  history = λ f0 b0 es o l. law_next g.M.Method.table g.J.Judgement.higher f0 b0 es _ _ _ _ _ o l c.close_read.ensures;
 }

@@ -7,8 +7,8 @@ pub returns : goal.returns
 returns g c =
     let f = c.args.self.now in
     let b = c.args.book.now in
-    let n : c.in-use.result - f.settled ≡ open_count f.condition = omega (arith, c.in-use.ensures.value) in
+    let n : c.in_use.result - f.settled ≡ open_count f.condition = omega (arith, c.in_use.ensures.value) in
     record {
       value = ap (λ k. take k (drop f.settled b)) n;
-      few = omega (arith, c.in-use.ensures.few, length-take (c.in-use.result - f.settled) (drop f.settled b));
+      few = omega (arith, c.in_use.ensures.few, length-take (c.in_use.result - f.settled) (drop f.settled b));
     }

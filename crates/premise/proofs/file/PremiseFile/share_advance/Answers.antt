@@ -15,12 +15,12 @@ use Rattle.premise.proofs.file.PremiseFile.share_advance.Goals.{After-closing}
 use Rattle.premise.proofs.file.PremiseFile.share_advance.Given.{Over}
 
 -- the records that the advance is shared out over are the open run and the entry of the read
-records : (g : Over) (c : goal.After-closing g) → take (c.in-use-place.result + 1 - c.args.self.now.settled) (drop c.args.self.now.settled (set c.args.book.now c.in-use-place.result c.closing.result))
+records : (g : Over) (c : goal.After-closing g) → take (c.in_use-place.result + 1 - c.args.self.now.settled) (drop c.args.self.now.settled (set c.args.book.now c.in_use-place.result c.closing.result))
     ≡ open_run c.args.self.now c.args.book.now ++ (closing c.args.self.now c.args.book.now c.args.day Actual 0 0 ∷ [])
 records g c =
     let f = c.args.self.now in
     let b = c.args.book.now in
-    run_and_next f.settled (open_count f.condition) c.in-use-place.result b c.closing.result c.in-use-place.ensures.value (omega (arith, c.in-use-place.ensures.value, c.requires.room))
+    run_and_next f.settled (open_count f.condition) c.in_use-place.result b c.closing.result c.in_use-place.ensures.value (omega (arith, c.in_use-place.ensures.value, c.requires.room))
     ∙ ap (λ e. open_run f b ++ (e ∷ [])) c.closing.ensures
 
 -- the entry of the read has a usage day, and no entry more than 208
@@ -54,16 +54,16 @@ returns g c =
     let f = c.args.self.now in
     let b = c.args.book.now in
     let a = c.args.advance in
-    let n = c.in-use-place.result in
+    let n = c.in_use-place.result in
     let k = open_count f.condition in
     let p = (goal.at.returns g c).After-closing in
-    let part : c.share-out.new.records ≡ shared_run f b c.args.day a = c.in-Ok.ensures.after ∙ ap (shared entry_part entry_weight entry_given a) (records g p) in
+    let part : c.share_out.new.records ≡ shared_run f b c.args.day a = c.in-Ok.ensures.after ∙ ap (shared entry_part entry_weight entry_given a) (records g p) in
     let run = open_run f b in
     let new = closing f b c.args.day Actual 0 0 in
-    let place : n ≡ f.settled + k = c.in-use-place.ensures.value in
-    let long : length c.share-out.new.records ≡ k + 1
+    let place : n ≡ f.settled + k = c.in_use-place.ensures.value in
+    let long : length c.share_out.new.records ≡ k + 1
     = ap length part ∙ length_shared entry_part entry_weight entry_given a (sum_of entry_part entry_weight (run ++ (new ∷ []))) (run ++ (new ∷ [])) 0 ∙ length_push run new ∙ ap (λ m. m + 1) (length-take-le k (drop f.settled b) (omega (arith, length-drop f.settled b, c.requires.room))) in
-    let book = written_back f.settled k n b c.share-out.new.records c.closing.result place (omega (arith, c.requires.room)) long
+    let book = written_back f.settled k n b c.share_out.new.records c.closing.result place (omega (arith, c.requires.room)) long
     ∙ ap (λ q. take f.settled b ++ (take k q ++ (as_actual (get_or q k no_entry) ∷ drop (n + 1) b))) part
     ∙ ap (λ m. take f.settled b ++ (take k (shared_run f b c.args.day a) ++ (as_actual (get_or (shared_run f b c.args.day a) k no_entry) ∷ drop (m + 1) b))) place in
     shared_answer _ _ n (in_use f) _ (corrections run) book place (ap (λ t. t.corrections) c.tallied-corrections.ensures ∙ ap corrections c.run.ensures.value)
