@@ -10,8 +10,8 @@ use crate::record::TellsCustomer;
 
 // The place of the latest record that passes; none where none does.
 pub fn latest_place<R, F: Fit<R>>(book: &[R], fit: &F) -> Option<usize>
-    ensures answer { result ≡ latest_place (fits fit.now) book.now }
-    ensures found { PlaceOrNone (fits fit.now) book.now result }
+    ensures answer { result ≡ latest_place (F.fits fit.now) book.now }
+    ensures found { PlaceOrNone (F.fits fit.now) book.now result }
 {
     for i in (0..book.len()).rev() {
         if fit.fit(&book[i]) {
@@ -23,8 +23,8 @@ pub fn latest_place<R, F: Fit<R>>(book: &[R], fit: &F) -> Option<usize>
 
 // The latest record that passes; none where none does.
 pub fn latest<'a, R, F: Fit<R>>(book: &'a [R], fit: &F) -> Option<&'a R>
-    ensures answer { held result ≡ latest (fits fit.now) book.now }
-    ensures found { LatestOrNone (fits fit.now) book.now (held result) }
+    ensures answer { held result ≡ latest (F.fits fit.now) book.now }
+    ensures found { LatestOrNone (F.fits fit.now) book.now (held result) }
 {
     record_at(book, latest_place(book, fit)?)
 }

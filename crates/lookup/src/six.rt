@@ -20,8 +20,8 @@ pub struct Six {
 
 // The six latest records that pass, or all that do where there are fewer.
 pub fn six_latest<R: TellsUse, F: Fit<R>>(book: &[R], fit: &F) -> Six
-    ensures answer { result ≡ six_latest (fits fit.now) used metered book.now }
-    ensures found { SixLatest (fits fit.now) used metered book.now result }
+    ensures answer { result ≡ six_latest (F.fits fit.now) R.used R.metered book.now }
+    ensures found { SixLatest (F.fits fit.now) R.used R.metered book.now result }
 {
     let mut six = Six {
         count: 0,
@@ -49,8 +49,8 @@ pub fn seasonal_sum<R: TellsCustomer + TellsUse>(
     customer: u32,
     season: Season,
 ) -> Six
-    ensures answer { result ≡ six_latest (in_the_season R.TellsCustomer.billed R.TellsEndDay.ends used metered whose customer season) used metered book.now }
-    ensures found { SixLatest (in_the_season R.TellsCustomer.billed R.TellsEndDay.ends used metered whose customer season) used metered book.now result }
+    ensures answer { result ≡ six_latest (in_the_season R.TellsCustomer.billed R.TellsEndDay.ends R.used R.metered whose customer season) R.used R.metered book.now }
+    ensures found { SixLatest (in_the_season R.TellsCustomer.billed R.TellsEndDay.ends R.used R.metered whose customer season) R.used R.metered book.now result }
 {
     six_latest(
         book,

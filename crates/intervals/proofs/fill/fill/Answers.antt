@@ -29,7 +29,7 @@ unreachable-requires c =
     let k = checks_passed (goal.at.unreachable-requires c).In_ok-check in
     let r = rest (goal.at.unreachable-requires c).In_ok-left in
     let a = accepted c.args.month.now c.args.intervals.now c.weigh.new.intervals c.in_ok-left.left k r c.weigh.ensures in
-    let b = c.in-default.ensures.answer in
+    let b = c.in_default.ensures.answer in
     let z : ◌≡◌ {A = ℕ} 0 1 = cc in
     omega arith
 

@@ -11,7 +11,7 @@ if_missing-requires c = usable_at _ _ _ c.loop-place.auto.place-end c.requires
 pub loop-place-preserved : goal.loop-place-preserved
 loop-place-preserved c =
     let s = weights_more c.args.month.now c.args.intervals.now c.loop-place.place blank c.loop-place-test.true in
-    (omega (arith, c.if_missing.ensures, s, c.loop-place.invariant.0), omega (arith, c.if_missing.ok, c.loop-place.invariant.1))
+    (omega (arith, c.if_missing.ensures, s, c.loop-place.invariant.0), omega (arith, c.loop-place.invariant.1))
 
 pub returns : goal.returns
 returns c =

@@ -2,8 +2,8 @@ use Rattle.std.proofs.Common.{◌+◌, refl}
 use Rattle.sheets.proofs.Steps.{no_line, line_read, stands_on}
 use Rattle.sheets.proofs.place.next_line.Goals as goal
 
-pub returns-in-default : goal.returns-in-default
-returns-in-default c = no_line c.args.sheet.now c.args.place.now (c.args.place.now.line + 1) c.in-default.ensures
+pub returns-in_default : goal.returns-in_default
+returns-in_default c = no_line c.args.sheet.now c.args.place.now (c.args.place.now.line + 1) c.in_default.ensures
 
 pub returns : goal.returns
 returns c =
