@@ -24,7 +24,7 @@ use Rattle.premise.proofs.Corrections.{sum_append}
 use Rattle.premise.proofs.Totals.{none_estimated}
 use Rattle.premise.proofs.Outcomes.{ReadStep, read_step, read_refused, MissStep, step_put_off, step_estimated, miss_step, miss_refused, move_step, move_refused}
 use Rattle.premise.proofs.Standing.{BillingWay, alone, rest, out, billing_way, given_part, length_run, run_at, length_shared_run, shared_run_cut, closed_count, Standing, open_kwh, weighs, bill_written, Added, added}
-use Rattle.premise.specs.History.{Closes, Missed, NotMissed, TruedUp, SharedOut, ReadBill, Billed}
+use Rattle.premise.specs.History.{Closes, Missed, NotMissed, TruedUp, IsSharedOut, ReadBill, Billed}
 use Rattle.sharing.specs.Sharing.{RoundedDown}
 use Rattle.sharing.proofs.Shares.{shared_place}
 
@@ -270,7 +270,7 @@ module _ {M J : Type 0} (table : M → List Entry → Question → Option Basis)
             let no : is_put_off (get_or b j no_entry).kind ≡ false = not-true (is_put_off (get_or b j no_entry).kind) p in
             (ap (λ (y : Entry). y.kind) e ∙ cond-false _ _ _ no, ap (λ (y : Entry). y.rung) e)
 
-        shared_record : SharedOut f b r.advanced a b'
+        shared_record : IsSharedOut f b r.advanced a b'
         unfolding tail last new
         shared_record =
             let xs = open_run f b ++ (closing f b day Actual 0 0 ∷ []) in
@@ -305,7 +305,7 @@ module _ {M J : Type 0} (table : M → List Entry → Question → Option Basis)
 
       -- the entry of the read, and how its advance is billed, by each way
       read_bill_by : (n : Entered)
-          → (any_estimated (open_run f b) ≡ true → (r.advanced < open_sum f b) ⊎ (higher f.judgement r.advanced (open_sum f b) (total_usage_days (open_run f b) + usage_days_of f b day) ≡ true) → SharedOut f b r.advanced a b')
+          → (any_estimated (open_run f b) ≡ true → (r.advanced < open_sum f b) ⊎ (higher f.judgement r.advanced (open_sum f b) (total_usage_days (open_run f b) + usage_days_of f b day) ≡ true) → IsSharedOut f b r.advanced a b')
           → ((any_estimated (open_run f b) ≡ false) ⊎ ((open_sum f b ≤ r.advanced) × (higher f.judgement r.advanced (open_sum f b) (total_usage_days (open_run f b) + usage_days_of f b day) ≡ false)) → TruedUp f b r.advanced a b')
           → ReadBill higher f0 es f b day register a f' b'
       read_bill_by n sharing truing =

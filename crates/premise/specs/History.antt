@@ -161,7 +161,7 @@ module _ {M J : Type 0} where
     pub none_corrected : answer.2 ≡ 0
 
   -- the advance of a read is shared out by usage days over the open entries and its own
-  pub record SharedOut (f : PremiseFile M J) (b : List Entry) (a : ℕ) (answer : ℕ × ℕ × ℕ) (b' : List Entry) : Type 0 where
+  pub record IsSharedOut (f : PremiseFile M J) (b : List Entry) (a : ℕ) (answer : ℕ × ℕ × ℕ) (b' : List Entry) : Type 0 where
     pub new : Entry
     pub new_weight : new.usage_days ≡ (get_or b' (in_use f) no_entry).usage_days
     pub new_kind : new.kind ≡ Actual
@@ -182,7 +182,7 @@ module _ {M J : Type 0} (higher : J → ℕ → ℕ → ℕ → Bool) where
     pub told : (a.0 ≡ kind_number (get_or b' (in_use f) no_entry).kind) × (a.1 ≡ (get_or b' (in_use f) no_entry).kwh)
     pub shared : any_estimated (open_run f b) ≡ true
         → (advanced < open_sum f b) ⊎ (higher f0.judgement advanced (open_sum f b) (total_usage_days (open_run f b) + (get_or b' (in_use f) no_entry).usage_days) ≡ true)
-        → SharedOut f b advanced a b'
+        → IsSharedOut f b advanced a b'
     pub trued_up : (any_estimated (open_run f b) ≡ false) ⊎ ((open_sum f b ≤ advanced) × (higher f0.judgement advanced (open_sum f b) (total_usage_days (open_run f b) + (get_or b' (in_use f) no_entry).usage_days) ≡ false))
         → TruedUp f b advanced a b'
 
