@@ -18,8 +18,8 @@ set_overlay at x b h =
 pub put_set : (at x : ℕ) (b : List ℕ) → at + 1 ≤ length b → Put at (x ∷ []) b (at + 1) (set b at x)
 put_set at x b h = record { end = omega arith; bytes = set_overlay at x b (omega arith) }
 
-pub put_mid : (at : ℕ) (t b : List ℕ) → Put at t b (at + length t) (put_mid at (at + length t - at) b t)
-put_mid at t b =
+pub put_within : (at : ℕ) (t b : List ℕ) → Put at t b (at + length t) (put_mid at (at + length t - at) b t)
+put_within at t b =
     record { end = refl; bytes = ap (λ x. take at b ++ (t ++ x)) (Post-is at (at + length t) b (omega arith)) }
 
 -- a text, and another one where it ends

@@ -23,9 +23,9 @@ pub(crate) trait Listed {
 
 // Writes the lines of the records, one after the other.
 pub(crate) fn put_lines<L: Listed>(buffer: &mut [u8], at: usize, records: &[L]) -> usize
-    requires { at + longest * length records.now ≤ length buffer.old }
-    ensures text { Put at (lines line records.now) buffer.old result buffer.new }
-    ensures few { result ≤ at + longest * length records.now }
+    requires { at + L.longest * length records.now ≤ length buffer.old }
+    ensures text { Put at (lines L.line records.now) buffer.old result buffer.new }
+    ensures few { result ≤ at + L.longest * length records.now }
 {
     let mut end = at;
     for record in records {

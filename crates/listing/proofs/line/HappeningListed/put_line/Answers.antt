@@ -7,8 +7,8 @@ put_lettered-requires c =
     let a = c.in-Read-default-default-Ok in
     omega (arith, c.requires, read_few a.kind a.kwh a.corrected (omega arith) (omega arith) (omega arith))
 
-pub put_lettered_requires_in_Miss_default_Ok : goal.put_lettered_requires_in_Miss_default_Ok
-put_lettered_requires_in_Miss_default_Ok c =
+pub put_lettered-requires-in-Miss-default-Ok : goal.put_lettered-requires-in-Miss-default-Ok
+put_lettered-requires-in-Miss-default-Ok c =
     let a = c.in-Miss-default-Ok in
     omega (arith, c.requires, miss_few a.kind a.rung a.kwh (omega arith) (omega arith) (omega arith))
 
