@@ -10,9 +10,9 @@ use Rattle.clerk.proofs.list_history.Goals as goal
 
 pub list_played-requires : goal.list_played-requires
 list_played-requires c =
-    let h = c.in_ok-happened.ensures in
+    let h = c.in_ok-happened-in-Ok.ensures in
     let law = h.history c.in-Ok.file blank_book [] c.in-Ok.ensures.opened start in
-    let items : length (vec_items c.in_ok-happened.happened) ≡ length c.args.calls.now = ap (λ (t : List Happening × PremiseFile Standard ByHalf × List Entry). length t.0) h.answer ∙ answers_counted standard_table by_half c.args.calls.now c.in-Ok.file blank_book in
+    let items : length (vec_items c.in_ok-happened-in-Ok.happened) ≡ length c.args.calls.now = ap (λ (t : List Happening × PremiseFile Standard ByHalf × List Entry). length t.0) h.answer ∙ answers_counted standard_table by_half c.args.calls.now c.in-Ok.file blank_book in
     record {
       room = c.requires.room;
       own = law.own_book;
