@@ -31,7 +31,7 @@ fn cases_of(rt: &HostRuntime, group: &str) -> anyhow::Result<Vec<String>> {
     if cases.is_empty() {
         return Err(anyhow!("there are no cases"));
     }
-    cases.sort();
+    cases.sort()?;
     Ok(cases)
 }
 
