@@ -13,7 +13,7 @@ pub(crate) trait StandsFor {
 
 pub(crate) fn copy_meant<A: StandsFor>(from: &[A], to: &mut [A::Of])
     requires { length from.now ≡ length to.old }
-    ensures { to.new ≡ map stands from.now }
+    ensures { to.new ≡ map A.stands from.now }
 {
     for (place, record) in from.iter().enumerate() {
         to[place] = record.meant();

@@ -4,8 +4,6 @@ ghost use Rattle.exports.specs.Answers.{answered};
 ghost use Rattle.exports.specs.Estimates.{estimated};
 
 use crate::answer::number_of;
-use estimating::basis::Basis;
-use estimating::fixed::FIXED_RUNG;
 use measures::refusal;
 
 const MOST_KWH: u32 = 1_000_000_000;
@@ -27,13 +25,5 @@ fn estimated(kwh: u32, days: u32, usage_days: u32) -> Result<u64, u8>
     if kwh > MOST_KWH || days < 1 || days > MOST_DAYS {
         return Err(refusal::BOUNDS);
     }
-    let basis = Basis {
-        rung: FIXED_RUNG,
-        kwh,
-        days: days as u16,
-    };
-    match basis.estimate(usage_days) {
-        Some(kwh) => Ok(kwh),
-        None => Err(refusal::BOUNDS),
-    }
+    Ok(kwh as u64 * usage_days as u64 / days as u64)
 }

@@ -87,7 +87,7 @@ mod tests {
     }
 
     // The two intervals, and then the 22.
-    fn rest(rt: &HostRuntime, two: &str) -> Result<String, Fail> {
+    fn rest(rt: &impl AllocGlobal, two: &str) -> Result<String, Fail> {
         let mut text = String::from_str(rt.alloc(), two)?;
         for _ in 0..22 {
             text.push_str("6 5 0\n")?;
@@ -95,10 +95,10 @@ mod tests {
         Ok(text)
     }
 
-    fn fills(rt: &HostRuntime, text: &str, two: &str) -> Result<(), Fail> {
+    fn fills(rt: &(impl Abort + AllocGlobal), text: &str, two: &str) -> Result<(), Fail> {
         let listing = listing(rt.alloc(), text.as_bytes())?;
         let after = rest(rt, two)?;
-        assert!(listing.as_str() == format!(in rt.alloc(); "2\n{after}")?.as_str());
+        assert!(rt; listing.as_str() == format!(in rt.alloc(); "2\n{after}")?.as_str());
         Ok(())
     }
 

@@ -212,7 +212,8 @@ mod tests {
     #[test]
     fn over_a_weekend(rt: HostRuntime) -> Result<(), Fail> {
         four_days(&rt, &[], [60, 408, 492, 40], 10)?;
-        four_days(&rt, &[3, 9, 40_000], [44, 300, 361, 295], 100).note("a holiday")
+        // a holiday
+        four_days(&rt, &[3, 9, 40_000], [44, 300, 361, 295], 100)
     }
 
     // A list that is refused stays as it was.
@@ -252,11 +253,14 @@ mod tests {
         month.weekend = &some;
         refuses(&rt, &month, &day, 24)?;
         month.holidays = &[7, 8];
-        refuses(&rt, &month, &day, 25).note("a total")?;
+        // a total
+        refuses(&rt, &month, &day, 25)?;
         month.total = 22_999_999;
-        refuses(&rt, &month, &day, 25).note("a filled interval")?;
+        // a filled interval
+        refuses(&rt, &month, &day, 25)?;
         day[4].mark = Mark::Valid;
-        refuses(&rt, &month, &day, 25).note("a valid interval")?;
+        // a valid interval
+        refuses(&rt, &month, &day, 25)?;
         day[4].wh = 1_000_000;
         refuses(&rt, &month, &day, 26)?;
         day[4] = interval(4_294_967_295, 4_294_967_295, Mark::Missing);
@@ -284,7 +288,8 @@ mod tests {
             total: 0,
         };
         let day = a_day();
-        refuses(&rt, &month, &day, 22).note("a part of a day")?;
+        // a part of a day
+        refuses(&rt, &month, &day, 22)?;
         assert_eq!(rt; fill(&month, &mut []), Err(22), "no day");
         let hours = Month {
             slots: 24,
