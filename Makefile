@@ -1,7 +1,7 @@
 # The library for C and other languages, its examples, and what holds it against a plain Rust program.
 # Needs the kit of the README, and beside it gcc, cargo and python3.
 
-kit := $(dir $(shell rt doc))..
+kit := $(dir $(shell rt doc))
 out := build
 
 .PHONY: library example-c example-rust example-python compare measure robust clean
@@ -9,11 +9,11 @@ out := build
 # A static and a shared library. The proof is made on the way.
 library: $(out)/libpekstuvna.so
 
-$(out)/libpekstuvna.a: $(shell find crates -name '*.rt' -o -name '*.antt')
-	rt staticlib exports
+$(out)/libpekstuvna.a: $(shell find crates -name out -prune -o \( -name '*.rt' -o -name '*.antt' \) -print)
+	cd crates/exports_c && rt lib
 	mkdir -p $(out)
-	cp target/staticlib/libexports.a $@
-	cp $(kit)/lib/librattle_c.a $(out)/
+	cp crates/exports_c/out/libexports_c.a $@
+	cp $(kit)c/liblibc_c.a $(out)/librattle_c.a
 
 $(out)/libpekstuvna.so: $(out)/libpekstuvna.a
 	gcc -shared -o $@ -Wl,--whole-archive $< -Wl,--no-whole-archive $(out)/librattle_c.a
@@ -36,15 +36,15 @@ compare: library
 	$(bench) --bin compare
 
 # The time of both on the same input.
-measure: library target/bin/pekstuvna
+measure: library crates/pekstuvna/out/pekstuvna
 	$(bench) --bin measure
 
 # Endless input, no memory and the like.
-robust: target/bin/pekstuvna
-	bench/robust.sh target/bin/pekstuvna
+robust: crates/pekstuvna/out/pekstuvna
+	bench/robust.sh crates/pekstuvna/out/pekstuvna
 
-target/bin/pekstuvna:
-	rt check pekstuvna
+crates/pekstuvna/out/pekstuvna:
+	cd crates/pekstuvna && rt run > /dev/null
 
 clean:
 	rm -rf $(out)

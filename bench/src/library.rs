@@ -10,9 +10,9 @@ unsafe extern "C" {
         sheet_length: usize,
         listing: *mut u8,
         listing_length: usize,
-    ) -> i32;
+    ) -> i64;
 
-    fn pekstuvna_share_out(total: u32, portions: *mut Portion, count: usize) -> i32;
+    fn pekstuvna_share_out(total: u32, portions: *mut Portion, count: usize) -> i64;
 
     safe fn pekstuvna_estimate(kwh: u32, days: u32, usage_days: u32) -> i64;
 
@@ -26,7 +26,7 @@ unsafe extern "C" {
         holiday_count: usize,
         intervals: *mut Interval,
         count: usize,
-    ) -> i32;
+    ) -> i64;
 
     fn pekstuvna_demand(
         book: *const Reading,
@@ -35,12 +35,12 @@ unsafe extern "C" {
         rate: *const u8,
         rate_length: usize,
         tenths: *mut u64,
-    ) -> i32;
+    ) -> i64;
 }
 
 /// A number of 0 or more, or the number of a refusal.
-fn answer(number: i32) -> Result<u32, u32> {
-    u32::try_from(number).map_err(|_| number.unsigned_abs())
+fn answer(number: i64) -> Result<u32, u32> {
+    u32::try_from(number).map_err(|_| number.unsigned_abs() as u32)
 }
 
 /// How many bytes of the buffer the listing has.

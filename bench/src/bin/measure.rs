@@ -22,7 +22,7 @@ use bench::random::Random;
 mod library;
 
 const USAGE: &str = "usage: measure [--program PATH]";
-const PROGRAM: &str = concat!(env!("CARGO_MANIFEST_DIR"), "/../target/bin/pekstuvna");
+const PROGRAM: &str = concat!(env!("CARGO_MANIFEST_DIR"), "/../crates/pekstuvna/out/pekstuvna");
 
 const SEED: u64 = 1;
 const ROUNDS: u32 = 15;

@@ -1,4 +1,6 @@
 // The calendar of 2000 to 2099: the month, the season and the weekends of a day.
+#![tactic(auto)]
+
 ghost use Rattle.std.specs.Prelude.{◌≡◌, Decides};
 ghost use Rattle.calendar.specs.Calendar.{lengths_from, month_of, Placed, season_in, season_of, Seasonal, year_before, SameMonthNextYear, weekend};
 

@@ -1,4 +1,5 @@
 // The words of a line.
+use anyhow::anyhow;
 use fields::number::number_of;
 use fields::rate::rate_of;
 use measures::rate::Rate;
@@ -6,7 +7,7 @@ use std::alloc::Global;
 
 // What is wrong with a case that asks nothing the program knows.
 pub fn wrong() -> anyhow::Error {
-    "the case cannot be read".into()
+    anyhow!("the case cannot be read")
 }
 
 // A line of so many numbers.

@@ -1,4 +1,6 @@
 // The clerk's whole job: a sheet comes in, its history is played on a fresh book, and a listing goes out.
+#![tactic(auto)]
+
 ghost use Rattle.std.specs.Prelude.{◌≡◌, ◌≤◌, true, length, take, IfOk, MatchResult};
 ghost use Rattle.premise.specs.Files.{fits, in_use};
 ghost use Rattle.listing.specs.Listing.{listing};

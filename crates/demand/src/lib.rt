@@ -1,4 +1,6 @@
 // The demand of a period without a reading: the answers, one after the other, and the call that asks them.
+#![tactic(auto)]
+
 ghost use Rattle.std.specs.Prelude.{◌≡◌};
 ghost use Rattle.demand.specs.Demand.{demand_makes, demand_of, ByTheAnswers};
 

@@ -1,6 +1,6 @@
 // A method that always answers the same basis, on rung 90.
 ghost use Rattle.std.specs.Prelude.{◌≡◌, ◌≤◌, Some, MatchResult};
-ghost use Rattle.std.proofs.Common.{rules, arith};
+ghost use Rattle.std.proofs.Common.{rules};
 
 use crate::basis::{Basis, Question};
 use crate::method::{EnergyMethod, Method};
@@ -50,7 +50,7 @@ impl Method for Fixed {
 }
 
 impl EnergyMethod for Fixed {
-    ghost lawful = { first_of (Prim.search rules, Prim.grind (arith, Self.row.coded.inj)) };
+    ghost lawful = { Prim.search rules };
 }
 
 #[cfg(test)]

@@ -1,6 +1,6 @@
 -- The estimate from a basis, for C.
 --   estimated e d u   the estimate for u usage days from e kWh in d days, or the refusal of a basis beyond its bounds
-use Rattle.std.specs.Prelude.{ℕ, ◌*◌, ◌/◌, cond, ◌&&◌, Ok, Err, Result, nat_le}
+use Rattle.std.specs.Prelude.{ℕ, cond, ◌&&◌, Ok, Err, Result, nat_le}
 use Rattle.measures.specs.Refusals.{out_of_bounds}
 use Rattle.estimating.specs.Estimates.{estimate}
 

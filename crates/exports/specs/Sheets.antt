@@ -1,7 +1,7 @@
 -- The listing of a sheet, for C.
 --   ListedFor t b b' r   r is the number of bytes of the text t, which is in front of the buffer; or the buffer is too
 --                         short or there is no memory, as r tells, and it stays as it was
-use Rattle.std.specs.Prelude.{◌≡◌, ℕ, ◌<◌, ◌≤◌, ◌⊎◌, List, length, ℤ, Ok, Err}
+use Rattle.std.specs.Prelude.{◌≡◌, ℕ, ◌<◌, ◌≤◌, List, length, ℤ, Ok, Err}
 use Rattle.measures.specs.Refusals.{may_not_fit}
 use Rattle.listing.specs.Listing.{in_front}
 use Rattle.exports.specs.Answers.{answered}

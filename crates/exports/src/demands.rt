@@ -61,13 +61,7 @@ const BLANK: DemandEntry = DemandEntry {
 };
 
 // The demand of a period on the rate of that name. It answers the answer's number, and writes its tenths of a kW.
-#[unsafe(no_mangle)]
-pub extern "C" fn pekstuvna_demand(
-    book: &[Reading],
-    period: &Period,
-    rate: &[u8],
-    tenths: &mut u64,
-) -> i64
+pub fn pekstuvna_demand(book: &[Reading], period: &Period, rate: &[u8], tenths: &mut u64) -> i64
     ensures answer { result ≡ answered (number_in (demanded (map entry_of book.now) period.now rate.now)) }
     ensures after { tenths.new ≡ tenths_in (demanded (map entry_of book.now) period.now rate.now) tenths.old }
 {

@@ -11,8 +11,7 @@ const MOST_KWH: u32 = 1_000_000_000;
 const MOST_DAYS: u32 = 999;
 
 // The kWh that so many kWh in so many days give for so many usage days, rounded down.
-#[unsafe(no_mangle)]
-pub extern "C" fn pekstuvna_estimate(kwh: u32, days: u32, usage_days: u32) -> i64
+pub fn pekstuvna_estimate(kwh: u32, days: u32, usage_days: u32) -> i64
     ensures answer { result ≡ answered (estimated kwh days usage_days) }
 {
     number_of(estimated(kwh, days, usage_days))

@@ -72,8 +72,7 @@ const BLANK: Interval = Interval {
 };
 
 // Fills the missing intervals of a month by its reference days, and answers how many.
-#[unsafe(no_mangle)]
-pub extern "C" fn pekstuvna_fill<'a>(
+pub fn pekstuvna_fill<'a>(
     month: &Span,
     weekday: &'a [u32],
     weekend: &'a [u32],

@@ -1,4 +1,6 @@
-// The library for C: each function takes numbers and lent lists, and answers a number.
+// The library as C calls it: each function takes numbers and lent lists, and answers a number.
+#![tactic(auto)]
+
 mod answer;
 mod copy;
 pub mod demands;

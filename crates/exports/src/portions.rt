@@ -48,8 +48,7 @@ impl Shares for Portion {
 }
 
 // Shares a total out over the records that take part, each by its weight, and answers 0.
-#[unsafe(no_mangle)]
-pub extern "C" fn pekstuvna_share_out(total: u32, portions: &mut [Portion]) -> i64
+pub fn pekstuvna_share_out(total: u32, portions: &mut [Portion]) -> i64
     ensures answer { result ≡ answered (nothing_more (verdict portion_takes_part portion_weight total portions.old)) }
     ensures after { portions.new ≡ (if is_ok (verdict portion_takes_part portion_weight total portions.old) then shared portion_takes_part portion_weight portion_given total portions.old else portions.old) }
     ensures promise { is_ok (verdict portion_takes_part portion_weight total portions.old) ≡ true → SharedOut portion_takes_part portion_weight portion_share total portions.old portions.new }

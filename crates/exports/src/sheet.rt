@@ -13,8 +13,7 @@ pub const NO_MEMORY: u8 = 255;
 
 // Plays a sheet and writes its listing, or the line of its refusal, to the front of the buffer. It answers how many bytes
 // that is.
-#[unsafe(no_mangle)]
-pub extern "C" fn pekstuvna_list_sheet(heap: Global, sheet: &[u8], listing: &mut [u8]) -> i64
+pub fn pekstuvna_list_sheet(heap: Global, sheet: &[u8], listing: &mut [u8]) -> i64
     ensures answer { ListedFor (sheet_listing sheet.now) listing.old listing.new result }
     ensures history { LawfulSheet sheet.now }
 {

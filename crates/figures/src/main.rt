@@ -1,5 +1,7 @@
 // Compares figures: runs every case of the data and holds what comes out to what is expected, byte for byte. It prints a
 // line for each case that differs, one for each group and one for all of them.
+#![tactic(auto)]
+
 mod played;
 mod tally;
 

@@ -11,6 +11,8 @@
 //      2,000    3,500                    3,550   2,029
 //      1,200    4,700                    4,768   1,218
 //      2,200    6,900                    7,000   2,232
+#![tactic(auto)]
+
 mod input;
 
 use input::{Fault, MOST_BYTES};
@@ -19,6 +21,7 @@ use intervals::interval::Interval;
 use intervals::month::Month;
 use std::alloc::Global;
 use std::io::Read;
+use std::process::ExitCode;
 
 // What the program prints for the bytes of its input: the filled month, or N and the refusal's number.
 fn listing(heap: Global, bytes: &[u8]) -> Result<String, Fault> {
@@ -60,12 +63,15 @@ fn run(rt: &HostRuntime) -> anyhow::Result<()> {
     Ok(())
 }
 
-fn main(rt: HostRuntime) -> anyhow::Result<()> {
-    if let Err(e) = run(&rt) {
-        eprintln!(rt; "{e}")?;
-        return Err(e);
+// What is wrong is one line on standard error; where that cannot be written, the status alone tells of it.
+fn main(rt: HostRuntime) -> ExitCode {
+    match run(&rt) {
+        Ok(()) => ExitCode::SUCCESS,
+        Err(e) => {
+            let _ = eprintln!(rt; "{e}");
+            ExitCode::FAILURE
+        }
     }
-    Ok(())
 }
 
 #[cfg(test)]

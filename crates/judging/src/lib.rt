@@ -1,4 +1,6 @@
 // Whether an advance is considerably higher than what was estimated: the interface of a judgement, and three makes.
+#![tactic(auto)]
+
 ghost use Rattle.std.specs.Prelude.{◌≡◌, ℕ, Bool, false};
 ghost use Rattle.judging.specs.Judgements.{judged, half_higher, day_higher, by_day_of};
 ghost use Rattle.std.proofs.Common.{rules};

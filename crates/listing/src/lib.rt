@@ -1,4 +1,6 @@
 // What happened on a premise's file and its entries, as text.
+#![tactic(auto)]
+
 mod field;
 mod line;
 pub mod list;

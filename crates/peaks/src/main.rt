@@ -1,10 +1,13 @@
 // Tells the demand of a period without a reading, from standard input to standard output.
+#![tactic(auto)]
+
 mod input;
 
 use demand::demand_of;
 use input::{Fault, MOST_BYTES};
 use std::alloc::Global;
 use std::io::Read;
+use std::process::ExitCode;
 
 // What the program prints for the bytes of its input: the answer's number and tenths of a kW, or N and the refusal's number.
 fn listing(heap: Global, bytes: &[u8]) -> Result<String, Fault> {
@@ -29,12 +32,15 @@ fn run(rt: &HostRuntime) -> anyhow::Result<()> {
     Ok(())
 }
 
-fn main(rt: HostRuntime) -> anyhow::Result<()> {
-    if let Err(e) = run(&rt) {
-        eprintln!(rt; "{e}")?;
-        return Err(e);
+// What is wrong is one line on standard error; where that cannot be written, the status alone tells of it.
+fn main(rt: HostRuntime) -> ExitCode {
+    match run(&rt) {
+        Ok(()) => ExitCode::SUCCESS,
+        Err(e) => {
+            let _ = eprintln!(rt; "{e}");
+            ExitCode::FAILURE
+        }
     }
-    Ok(())
 }
 
 #[cfg(test)]

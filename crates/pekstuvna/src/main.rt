@@ -1,9 +1,12 @@
 // Reads a sheet from standard input and prints its listing, or the line of its refusal.
+#![tactic(auto)]
+
 use anyhow::anyhow;
 use clerk::{Unlisted, list_sheet};
 use listing::list::LEAST_BUFFER;
 use sheets::sheet::MOST_BYTES;
 use std::io::{Read, Write};
+use std::process::ExitCode;
 
 // No more is read of a sheet than shows that it is too long.
 fn run(rt: &HostRuntime) -> anyhow::Result<()> {
@@ -20,10 +23,13 @@ fn run(rt: &HostRuntime) -> anyhow::Result<()> {
     Ok(())
 }
 
-fn main(rt: HostRuntime) -> anyhow::Result<()> {
-    if let Err(e) = run(&rt) {
-        eprintln!(rt; "{e}")?;
-        return Err(e);
+// What is wrong is one line on standard error; where that cannot be written, the status alone tells of it.
+fn main(rt: HostRuntime) -> ExitCode {
+    match run(&rt) {
+        Ok(()) => ExitCode::SUCCESS,
+        Err(e) => {
+            let _ = eprintln!(rt; "{e}");
+            ExitCode::FAILURE
+        }
     }
-    Ok(())
 }

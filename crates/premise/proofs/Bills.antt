@@ -8,7 +8,7 @@ use Rattle.measures.specs.declared.entry.Kind.TheVariants.{Actual, TrueUp, Corre
 use Rattle.measures.specs.Dial.{turn_of, advance}
 use Rattle.estimating.specs.Estimates.{estimate}
 use Rattle.measures.specs.Entry.{kind_number, total_usage_days}
-use Rattle.sharing.specs.Sharing.{sum_of, shared, SharedOut}
+use Rattle.sharing.specs.Sharing.{sum_of, SharedOut}
 use Rattle.sharing.specs.Entries.{is_put_off, entry_part, entry_weight, entry_given, entry_kwh}
 use Rattle.sharing.proofs.Shares.{shared_out}
 use Rattle.estimating.specs.declared.basis.Question.{Question}
@@ -19,7 +19,7 @@ use Rattle.premise.specs.Books.{no_entry, any_estimated, corrections, waiting_da
 use Rattle.premise.specs.Files.{in_use, open_count, is_fresh, open_run, open_sum, closing, putting_off, usage_days_of, shared_run, corrected_book, as_actual, billing, billed, question}
 use Rattle.premise.specs.declared.happening.Happening.{Happening}
 use Rattle.premise.specs.declared.happening.Happening.TheVariants.{Read, Miss, Move}
-use Rattle.premise.specs.History.{accepted, customer_after, day_after, Happens, Lived, start, next, BillAt}
+use Rattle.premise.specs.History.{customer_after, day_after, Happens, Lived, start, next, BillAt}
 use Rattle.premise.proofs.Corrections.{sum_append}
 use Rattle.premise.proofs.Totals.{none_estimated}
 use Rattle.premise.proofs.Outcomes.{ReadStep, read_step, read_refused, MissStep, step_put_off, step_estimated, miss_step, miss_refused, move_step, move_refused}

@@ -4,7 +4,7 @@ use borrow.Rule.Slice.PartMut.{put_mid, post_of, Post-is}
 use Rattle.std.proofs.lemmas.List.{take_more, take_more_set, take-set-le, drop-set-lt, drop-set-add, set_at, get_or_at, length-append, length_push, length-take-le, take_all, get_or_append_left, get_or_push}
 use Rattle.std.proofs.lemmas.Bool.{cond-true, cond-false, le-leb, cases_Bool, cases_lt, and_from}
 use Rattle.measures.specs.declared.entry.Entry.{Entry}
-use Rattle.sharing.specs.Sharing.{sum_of, light, shared, verdict}
+use Rattle.sharing.specs.Sharing.{sum_of, light, verdict}
 use Rattle.sharing.specs.Entries.{entry_part, entry_weight}
 use Rattle.sharing.proofs.Shares.{verdict_ok}
 use Rattle.premise.specs.Books.{no_entry}

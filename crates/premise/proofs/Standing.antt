@@ -12,7 +12,7 @@ use Rattle.measures.specs.declared.entry.Kind.TheVariants.{Actual, TrueUp, Estim
 use Rattle.measures.specs.Dial.{turn_of, dial_of, advance}
 use Rattle.estimating.specs.Estimates.{estimate}
 use Rattle.measures.specs.Entry.{kind_number, total_kwh, total_usage_days}
-use Rattle.sharing.specs.Sharing.{sum_of, shared}
+use Rattle.sharing.specs.Sharing.{sum_of}
 use Rattle.sharing.specs.Entries.{is_put_off, entry_part, entry_weight, entry_given, entry_kwh}
 use Rattle.sharing.proofs.Shares.{length_shared, shared_out}
 use Rattle.estimating.specs.declared.basis.Question.{Question}

@@ -1,4 +1,6 @@
 // The file of a premise: what its bills are, from reads, misses and moves.
+#![tactic(auto)]
+
 mod book;
 pub mod calls;
 pub mod condition;

@@ -1,4 +1,6 @@
 // Shares the advance of a dial out over the months that missed their read, from standard input to standard output.
+#![tactic(auto)]
+
 ghost use Rattle.std.specs.Prelude.{◌^◌, ◌<◌};
 ghost use Rattle.shareout.specs.Months.{kwh_of};
 
@@ -9,6 +11,7 @@ use input::{Fault, MOST_BYTES};
 use months::Month;
 use std::alloc::Global;
 use std::io::Read;
+use std::process::ExitCode;
 
 // What the program prints for the bytes of its input.
 fn listing(heap: Global, text: &[u8]) -> Result<String, Fault> {
@@ -43,12 +46,15 @@ fn run(rt: &HostRuntime) -> anyhow::Result<()> {
     Ok(())
 }
 
-fn main(rt: HostRuntime) -> anyhow::Result<()> {
-    if let Err(e) = run(&rt) {
-        eprintln!(rt; "{e}")?;
-        return Err(e);
+// What is wrong is one line on standard error; where that cannot be written, the status alone tells of it.
+fn main(rt: HostRuntime) -> ExitCode {
+    match run(&rt) {
+        Ok(()) => ExitCode::SUCCESS,
+        Err(e) => {
+            let _ = eprintln!(rt; "{e}");
+            ExitCode::FAILURE
+        }
     }
-    Ok(())
 }
 
 #[cfg(test)]

@@ -1,4 +1,6 @@
 // Sheets: a premise's opening and its calls as text, and how such a text is read.
+#![tactic(auto)]
+
 pub mod fault;
 pub mod line;
 pub mod notice;

@@ -1,3 +1,5 @@
+#![tactic(auto)]
+
 // Histories worked by hand, call by call.
 #[cfg(test)]
 mod history;

@@ -1,5 +1,5 @@
-use Rattle.std.proofs.Common.{◌<◌, ◌≤◌, length, set, sym, ap, ◌∙◌, arith}
-use Rattle.exports.proofs.Copies.{copied, copy_more, copy_all}
+use Rattle.std.proofs.Common.{◌<◌, ◌≤◌, length, set, ap, ◌∙◌, arith}
+use Rattle.exports.proofs.Copies.{copy_more, copy_all}
 use Rattle.exports.proofs.copy.copy_meant.Goals as goal
 
 pub loop-place-preserved : goal.loop-place-preserved
