@@ -1,16 +1,16 @@
 -- The calendar of 2000 to 2099. Days are counted from 1 January 2000, and months from January 2000, both from 0.
---   last_day          31 December 2099
---   month_length m    how many days month m has
---   first_day_of m       the first day of month m
---   month_of d        the month of the day d; none off the calendar
---   LiesIn d m       the day d lies in month m and in no other
---   Placed d r        r is the month that the day d lies in, or none off the calendar
---   season_of d       the season of the day d; none off the calendar
---   InSummer y d     the day d lies in the summer of year y, 2000 being 0
---   Seasonal d r      r is summer in the summer of some year, else winter, or none off the calendar
---   year_before d e   whether the day d lies in the same month of the year as the day e, one year earlier
+--   last_day                31 December 2099
+--   month_length m          how many days month m has
+--   first_day_of m          the first day of month m
+--   month_of d              the month of the day d; none off the calendar
+--   LiesIn d m              the day d lies in month m and in no other
+--   Placed d r              r is the month that the day d lies in, or none off the calendar
+--   season_of d             the season of the day d; none off the calendar
+--   InSummer y d            the day d lies in the summer of year y, 2000 being 0
+--   Seasonal d r            r is summer in the summer of some year, else winter, or none off the calendar
+--   year_before d e         whether the day d lies in the same month of the year as the day e, one year earlier
 --   SameMonthNextYear d e   the same as a statement about the two months
---   weekend d         whether the day d is a Saturday or a Sunday
+--   weekend d               whether the day d is a Saturday or a Sunday
 use Rattle.std.specs.Prelude.{◌≡◌, ℕ, zero, suc, ◌+◌, ◌-◌, ◌*◌, ◌/◌, ◌%◌, ◌<◌, ◌≤◌, Bool, false, cond, ◌&&◌, ◌||◌, List, [], ◌∷◌, Some, None, Option, ◌==◌, nat_le, nat_lt}
 use Rattle.calendar.specs.declared.Season.{Season}
 use Rattle.calendar.specs.declared.Season.TheVariants.{Summer, Winter}

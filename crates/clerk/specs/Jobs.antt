@@ -1,11 +1,11 @@
 -- A sheet and its listing.
---   Standard             the standard method: the seven rungs, asked one after the other
---   standard_table m     what it answers
---   blank_book           240 places, none of them in use
---   history_listing o cs the listing of the calls cs on a file that was opened with o, or the line of its refusal
---   sheet_listing bs     the listing of a sheet, or the line of its refusal
---   LawfulSheet bs      the law over whole histories holds of the history that the sheet bs is the text of
---   Listed t b b' n      the n bytes of the text t are in front of the buffer, which keeps its other bytes
+--   Standard               the standard method: the seven rungs, asked one after the other
+--   standard_table m       what it answers
+--   blank_book             240 places, none of them in use
+--   history_listing o cs   the listing of the calls cs on a file that was opened with o, or the line of its refusal
+--   sheet_listing bs       the listing of a sheet, or the line of its refusal
+--   LawfulSheet bs         the law over whole histories holds of the history that the sheet bs is the text of
+--   Listed t b b' n        the n bytes of the text t are in front of the buffer, which keeps its other bytes
 use Rattle.std.specs.Prelude.{◌≡◌, ℕ, ◌<◌, ◌≤◌, Bool, false, List, [], length, take, replicate, Some, None, Ok, Err, Option, Result}
 use Rattle.measures.specs.declared.entry.Entry.{Entry}
 use Rattle.measures.specs.declared.entry.Kind.TheVariants.{Actual}

@@ -4,7 +4,7 @@ use Rattle.std.proofs.lemmas.Bool.{cond-true, cond-false, cases_Bool, and_parts,
 use Rattle.measures.specs.Refusals.{no_answer}
 use Rattle.measures.specs.Rate.{load_factor}
 use Rattle.estimating.specs.declared.first_then.FirstThen.{FirstThen}
-use Rattle.estimating.specs.Tables.{first_then, first_of}
+use Rattle.estimating.specs.Tables.{first_then, first_among}
 use Rattle.estimating.specs.Cases.{none_some}
 use Rattle.estimating.proofs.Firsts.{first_then_none, found, found_first, none_found, none_first}
 use Rattle.lookup.specs.declared.fit.Whose.{Whose}
@@ -62,7 +62,7 @@ in_turn m book q =
 pub in_turn_first : (m : _) (book : List DemandEntry) (q : DemandQuestion) → m ≡ demand_makes → in_turn m book q ≡ first_answer book q
 in_turn_first m book q e = ap (λ z. in_turn z book q) e
 
-first_answer_is : (book : List DemandEntry) (q : DemandQuestion) → first_answer book q ≡ first_of (answers_by_number book q)
+first_answer_is : (book : List DemandEntry) (q : DemandQuestion) → first_answer book q ≡ first_among (answers_by_number book q)
 first_answer_is book q =
     ap (λ z. first_then (short_initial q) (first_then (last_reading Customer book q) (first_then (reading_year_back Customer book q) (first_then (last_reading Anyone book q) (first_then (reading_year_back Anyone book q) z))))) (sym (first_then_none (by_load_factor q)))
 
@@ -132,7 +132,7 @@ refused_well book q s = ⊎_elim
 pub demand_law : (book : List DemandEntry) (q : DemandQuestion) (r : Result DemandAnswer ℕ) → r ≡ demand_of book q → ByTheAnswers book q r
 demand_law book q r is =
     let xs = answers_by_number book q in
-    let first : first_answer book q ≡ first_of xs = first_answer_is book q in
+    let first : first_answer book q ≡ first_among xs = first_answer_is book q in
     record {
       numbered = number book q;
       answered = λ a s.

@@ -9,7 +9,7 @@
 --   last_reading w book q       the answer from the book's very last entry
 --   reading_year_back w book q  the answer from the latest entry of the same month, one year earlier
 --   by_load_factor q            the answer from the kWh, by the load factor of the rate
---   On-.. r                     r is that answer where its conditions are met, and none where they are not
+--   On.. r                      r is that answer where its conditions are met, and none where they are not
 use Rattle.std.specs.Prelude.{◌≡◌, ℕ, ◌+◌, ◌*◌, ◌/◌, ◌<◌, ◌≤◌, Bool, true, false, cond, not, ◌&&◌, List, Some, None, Option, ◌==◌, nat_lt}
 use Rattle.calendar.specs.Calendar.{SameMonthNextYear}
 use Rattle.measures.specs.Rate.{load_factor}

@@ -4,8 +4,8 @@
 --   demand_of book q           that answer, or the number of a refusal
 --   answers_by_number book q   what each answer by itself is, in order; there is no answer 5
 --   answer_by n book q         what answer n by itself is
---   ByAnswer n book q a       answer n is a, and there is no answer before it
---   ByTheAnswers book q r    r is by answer n exactly when n is the first that there is, and 14 when there is none
+--   ByAnswer n book q a        answer n is a, and there is no answer before it
+--   ByTheAnswers book q r      r is by answer n exactly when n is the first that there is, and 14 when there is none
 use Rattle.std.specs.Prelude.{◌≡◌, ℕ, ◌<◌, cond, List, [], ◌∷◌, length, Some, None, Ok, Err, Option, Result, ◌==◌, nat_lt, slice_index_or}
 use Rattle.measures.specs.Refusals.{no_customer, no_answer, long_demand_book, bad_figures}
 use Rattle.estimating.specs.declared.first_then.FirstThen.{FirstThen}

@@ -1,5 +1,5 @@
 -- The questions about demand.
---   good_figures q      whether the question's figures are within their bounds
+--   good_figures q     whether the question's figures are within their bounds
 --   WellAsked book q   nothing is wrong with the question and the book
 use Rattle.std.specs.Prelude.{◌<◌, ◌≤◌, Bool, ◌&&◌, List, length, nat_le, nat_lt}
 use Rattle.demand.specs.declared.entry.DemandEntry.{DemandEntry}

@@ -1,8 +1,8 @@
 -- The demand of a period as C asks for it.
---   entry_of x          an entry of a demand book from its numbers
---   question_of p r     what is asked about a period on the rate r
---   demanded es p bs    the answer for the period p on the rate that the bytes bs name
---   too_long c          the refusal of a book of over 240 entries, for the customer c
+--   entry_of x             an entry of a demand book from its numbers
+--   question_of p r        what is asked about a period on the rate r
+--   demanded es p bs       the answer for the period p on the rate that the bytes bs name
+--   too_long c             the refusal of a book of over 240 entries, for the customer c
 --   number_in, tenths_in   the number of an answer, and its tenths where there is one
 use Rattle.std.specs.Prelude.{ℕ, cond, not, List, Some, None, Ok, Err, Option, Result, ◌==◌}
 use Rattle.measures.specs.Refusals.{no_customer, bad_field, long_demand_book}

@@ -27,9 +27,9 @@ first_onto p b [] = refl
 first_onto p b (q ∷ qs) = refl
 
 -- behind a separator there is a piece
-pub first_of : (c : ℕ) (p bs : List ℕ) → first_piece (p ∷ pieces c bs) ≡ Some (p, pieces c bs)
-first_of c p [] = refl
-first_of c p (b ∷ bs) = cond_both (eqb b c) ([] ∷ pieces c bs) (onto_first b (pieces c bs)) (λ ps. first_piece (p ∷ ps) ≡ Some (p, ps)) (λ e. refl) (λ e. first_onto p b (pieces c bs))
+pub first_piece_of : (c : ℕ) (p bs : List ℕ) → first_piece (p ∷ pieces c bs) ≡ Some (p, pieces c bs)
+first_piece_of c p [] = refl
+first_piece_of c p (b ∷ bs) = cond_both (eqb b c) ([] ∷ pieces c bs) (onto_first b (pieces c bs)) (λ ps. first_piece (p ∷ ps) ≡ Some (p, ps)) (λ e. refl) (λ e. first_onto p b (pieces c bs))
 
 module _ (c : ℕ) (bs : List ℕ) (i : ℕ) where
   -- a byte that is no separator goes to the first piece
@@ -64,7 +64,7 @@ pub rejoined : (c : ℕ) (bs : List ℕ) → joined_by c (pieces c bs) ≡ bs
 rejoined c [] = refl
 rejoined c (b ∷ bs) =
     cond_both (eqb b c) ([] ∷ pieces c bs) (onto_first b (pieces c bs)) (λ ps. joined_by c ps ≡ b ∷ bs)
-    (λ e. join_more c [] (pieces c bs) (first_of c [] bs) ∙ (let same : c ≡ b = sym (eqb-true b c e) in λ i. same i ∷ rejoined c bs i))
+    (λ e. join_more c [] (pieces c bs) (first_piece_of c [] bs) ∙ (let same : c ≡ b = sym (eqb-true b c e) in λ i. same i ∷ rejoined c bs i))
     (λ e. join_onto c b (pieces c bs) ∙ ap (λ (l : List ℕ). b ∷ l) (rejoined c bs))
 
 -- no byte is the separator

@@ -1,21 +1,21 @@
 -- The missing intervals of a month, filled so that the month comes to its register total. Intervals stand in order of
 -- time: interval i is slot i % slots of day first day + i / slots.
---   mark_number k         the number that stands for the mark k
---   valid x, missing x    told by the mark; lacking x: not valid
---   wh_in, valid_wh       the Wh of all intervals of a list, and of the valid ones
---   missing_in xs         how many intervals are missing
---   day_off m d           whether the day d uses the weekend reference: on a weekend, or a holiday
---   reference m i         the reference Wh at place i of the list, by its day and slot
---   weighed m xs          the intervals once each missing one has its reference as weight
---   weights_in m xs       the references of the missing intervals together
---   filled m xs           the intervals once the missing ones have their shares of what the valid ones leave of the total
+--   mark_number k        the number that stands for the mark k
+--   valid x, missing x   told by the mark; lacking x: not valid
+--   wh_in, valid_wh      the Wh of all intervals of a list, and of the valid ones
+--   missing_in xs        how many intervals are missing
+--   day_off m d          whether the day d uses the weekend reference: on a weekend, or a holiday
+--   reference m i        the reference Wh at place i of the list, by its day and slot
+--   weighed m xs         the intervals once each missing one has its reference as weight
+--   weights_in m xs      the references of the missing intervals together
+--   filled m xs          the intervals once the missing ones have their shares of what the valid ones leave of the total
 --   whole_days, fits_day, rising_from, readable   what is asked of a list, a reference day, the holidays and an interval
---   checked m xs          the refusals of what was handed in
---   left-over ..          what is left for the missing intervals, and the refusals where it cannot be shared out
---   answer m xs           the number of intervals that are filled, or the first refusal
+--   checked m xs         the refusals of what was handed in
+--   left_over ..         what is left for the missing intervals, and the refusals where it cannot be shared out
+--   answer m xs          the number of intervals that are filled, or the first refusal
 --   FilledUp m n xs ys   what holds of the intervals before and after
---   Usable m n            what a list of n intervals needs, or a place n
-use Rattle.std.specs.Prelude.{◌≡◌, ℕ, ◌+◌, ◌-◌, ◌/◌, ◌%◌, ◌<◌, ◌≤◌, Bool, true, false, cond, not, ◌&&◌, ◌||◌, leb, List, [], ◌∷◌, length, get_or, Ok, Err, Result, ◌==◌, nat_le, nat_lt, slice_index, slice_index_or}
+--   Usable m n           what a list of n intervals needs, or a place n
+use Rattle.std.specs.Prelude.{◌≡◌, ℕ, ◌+◌, ◌-◌, ◌/◌, ◌%◌, ◌<◌, ◌≤◌, Bool, true, false, cond, not, ◌&&◌, ◌||◌, List, [], ◌∷◌, length, get_or, Ok, Err, Result, ◌==◌, nat_le, nat_lt, slice_index, slice_index_or}
 use Rattle.calendar.specs.Calendar.{last_day, weekend as weekend_day}
 use Rattle.measures.specs.Refusals.{bad_slots, not_whole_days, bad_reference, bad_holidays, bad_readings, none_missing, over_total, no_weight}
 use Rattle.sharing.specs.Sharing.{sum_of, shared}
@@ -107,7 +107,7 @@ abbrev pub whole_days : ℕ → ℕ → ℕ → Bool
 whole_days slots first n = n % slots == 0 && (nat_le 1 (n / slots) && (nat_le (n / slots) 35 && nat_le (first + n / slots - 1) last_day))
 
 abbrev pub fits_day : ℕ → List ℕ → Bool
-fits_day slots vs = length vs == slots && every (λ v. leb v 1000000) vs
+fits_day slots vs = length vs == slots && every (λ v. nat_le v 1000000) vs
 
 -- days that rise strictly, the first of them not before d
 abbrev pub rising_from : ℕ → List ℕ → Bool

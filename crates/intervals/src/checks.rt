@@ -1,5 +1,5 @@
 // The refusals of what was handed in, before anything is counted.
-ghost use Rattle.std.specs.Prelude.{◌≡◌, ◌<◌, leb, nat_le};
+ghost use Rattle.std.specs.Prelude.{◌≡◌, ◌<◌, nat_le};
 ghost use Rattle.intervals.specs.Intervals.{whole_days, every, fits_day, rising_from, readable, checked};
 
 use crate::interval::{Interval, MOST_WH};
@@ -51,7 +51,7 @@ fn fits_day(slots: u32, values: &[u32]) -> bool
 
 // Whether no value is too high.
 fn are_within(values: &[u32]) -> bool
-    ensures { result ≡ every (λ v. leb v 1000000) values.now }
+    ensures { result ≡ every (λ v. nat_le v 1000000) values.now }
 {
     for value in values {
         if !is_within(*value) {

@@ -4,7 +4,7 @@ use Rattle.measures.specs.declared.entry.Entry.{Entry}
 use Rattle.measures.specs.Rate.{class_kwh}
 use Rattle.estimating.specs.declared.basis.Question.{Question}
 use Rattle.estimating.specs.declared.basis.Basis.{Basis}
-use Rattle.estimating.specs.Tables.{first_then, first_of}
+use Rattle.estimating.specs.Tables.{first_then, first_among}
 use Rattle.estimating.specs.declared.first_then.FirstThen.{FirstThen}
 use Rattle.ladder.specs.declared.rungs.LastEntry.{LastEntry}
 use Rattle.ladder.specs.declared.rungs.YearBack.{YearBack}
@@ -55,14 +55,14 @@ in_turn m book q =
 pub in_turn_standard : (m : _) (book : List Entry) (q : Question) → m ≡ standard_rungs → in_turn m book q ≡ standard book q
 in_turn_standard m book q e = ap (λ z. in_turn z book q) e
 
-standard_is : (book : List Entry) (q : Question) → standard book q ≡ first_of (rung_answers book q)
+standard_is : (book : List Entry) (q : Question) → standard book q ≡ first_among (rung_answers book q)
 standard_is book q =
     ap (λ z. first_then (last_entry Customer book q) (first_then (from_year_back Customer book q) (first_then (seasonal Customer book q) (first_then (last_entry Anyone book q) (first_then (from_year_back Anyone book q) (first_then (seasonal Anyone book q) z)))))) (sym (first_then_none (class_figure q)))
 
 pub standard_law : (book : List Entry) (q : Question) (r : Option Basis) → r ≡ standard book q → ByTheLadder book q r
 standard_law book q r e =
     let xs = rung_answers book q in
-    let is : r ≡ first_of xs = e ∙ standard_is book q in
+    let is : r ≡ first_among xs = e ∙ standard_is book q in
     record {
       numbered = λ n b low high a. (let m = number book q (n - 1) b a in omega arith);
       answered = λ b s.

@@ -1,9 +1,9 @@
 -- The standard method: the seven rungs, asked one after the other.
---   standard_rungs           the rungs in the order in which they are asked
---   standard book q          the answer of the first rung that has one
---   rung_answers book q      what each rung by itself answers, in order
---   rung_answer n book q     what rung n by itself answers
---   ByRung n book q b       rung n answers b, and no rung before it answers
+--   standard_rungs         the rungs in the order in which they are asked
+--   standard book q        the answer of the first rung that has one
+--   rung_answers book q    what each rung by itself answers, in order
+--   rung_answer n book q   what rung n by itself answers
+--   ByRung n book q b      rung n answers b, and no rung before it answers
 --   ByTheLadder book q r   r is by rung n exactly when rung n is the first to answer, and none when none does
 use Rattle.std.specs.Prelude.{◌≡◌, ℕ, ◌-◌, ◌<◌, ◌≤◌, List, [], ◌∷◌, Some, None, Option, slice_index_or}
 use Rattle.measures.specs.declared.entry.Entry.{Entry}

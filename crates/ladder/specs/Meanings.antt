@@ -1,7 +1,7 @@
 -- What the tables of the rungs mean.
 use Rattle.std.specs.Prelude.{◌≡◌, ℕ, ◌+◌, ◌-◌, ◌*◌, ◌<◌, ◌≤◌, Bool, true, not, ◌&&◌, List, [], ◌∷◌, length, drop, Some, None, filter, Option, ◌==◌, nat_le, nat_lt, refl}
 use Rattle.std.proofs.Common.{sym, ap, ◌∙◌, ⊎_elim, arith}
-use Rattle.std.specs.List.{AllByRecursion as All}
+use Rattle.std.specs.List.{AllByRecursion}
 use Rattle.std.proofs.lemmas.List.{length-drop}
 use Rattle.std.proofs.ByRecursion.{kept_by_passes, All-weaker, All-drop}
 use Rattle.std.proofs.lemmas.Bool.{cond-true, cond-false, cases_Bool, and_parts, and_from, leb-true, ltb-true, eqb-true, le-leb, lt-ltb, eq-eqb, not-true, not_from_false}
@@ -98,7 +98,7 @@ total_kwh_is [] = refl
 total_kwh_is (e ∷ es) = ap (λ n. e.kwh + n) (total_kwh_is es)
 
 -- figures below a limit sum to no more than the limit each
-total_below : {R : Type 0} (figure : R → ℕ) (xs : List R) → All (λ x. figure x < 100000000) xs → total figure xs ≤ 100000000 * length xs
+total_below : {R : Type 0} (figure : R → ℕ) (xs : List R) → AllByRecursion (λ x. figure x < 100000000) xs → total figure xs ≤ 100000000 * length xs
 total_below figure [] h = omega arith
 total_below figure (x ∷ xs) h = omega (arith, h.0, total_below figure xs h.1)
 

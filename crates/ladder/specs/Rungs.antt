@@ -1,14 +1,14 @@
 -- The rungs of the ladder. Each has its table, which gives one answer or none for each book and question, and above it
 -- what the answer means.
---   rung_for n w            the number of a rung that is n for the customer's own entries, and three more for anyone's
---   IsAvailable e          an estimate may be made from the entry e
---   basis_of n e            the basis that the entry e gives on rung n
---   last_entry w book q     the answer from the book's very last entry
---   from_year_back w book q the answer from the latest entry of the same month, one year earlier
---   seasonal w book q       the answer from the six latest entries of the season
---   class_figure q          the answer from the figure that the rate has for its class of premises
---   By-.. w book q e        the entry e, or the entries, serve on that rung
---   On-.. w book q r        r is the basis of what serves, or none where nothing does
+--   rung_for n w              the number of a rung that is n for the customer's own entries, and three more for anyone's
+--   IsAvailable e             an estimate may be made from the entry e
+--   basis_of n e              the basis that the entry e gives on rung n
+--   last_entry w book q       the answer from the book's very last entry
+--   from_year_back w book q   the answer from the latest entry of the same month, one year earlier
+--   seasonal w book q         the answer from the six latest entries of the season
+--   class_figure q            the answer from the figure that the rate has for its class of premises
+--   By.. w book q e           the entry e, or the entries, serve on that rung
+--   On.. w book q r           r is the basis of what serves, or none where nothing does
 use Rattle.std.specs.Prelude.{◌≡◌, ℕ, ◌+◌, ◌<◌, ◌≤◌, Bool, false, cond, not, ◌&&◌, List, length, drop, Some, None, filter, Option, ◌==◌, nat_le}
 use Rattle.calendar.specs.declared.Season.{Season}
 use Rattle.calendar.specs.Calendar.{season_of, SameMonthNextYear}

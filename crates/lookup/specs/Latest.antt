@@ -1,17 +1,17 @@
 -- The latest record of a book, by its place: the one with the greatest place that passes a test.
---   latest_place test book       its place, where one passes
---   latest test book             the record itself
---   LatestAt test book i x      the record x at place i passes, and no record after it does
---   Latest test book x           the same, at some place
---   PlaceOrNone test book p    p is the place of the latest record that passes, or none where none passes
---   LatestOrNone test book r   r is that record, or none where none passes
+--   latest_place test book          its place, where one passes
+--   latest test book                the record itself
+--   LatestAt test book i x          the record x at place i passes, and no record after it does
+--   Latest test book x              the same, at some place
+--   PlaceOrNone test book p         p is the place of the latest record that passes, or none where none passes
+--   LatestOrNone test book r        r is that record, or none where none passes
 --   year_back_place .. w c d book   the place of the latest record for the customer c in the month of d, a year earlier
---   year_back .. w c d book      the record itself
---   newest_place book            the last place, where there is one
---   newest book                  the very last record
---   NewestAt book i x           the record x stands at place i, the last
---   Newest book x                the same, at some place
---   NewestOrNone book r        r is the very last record, or none in an empty book
+--   year_back .. w c d book         the record itself
+--   newest_place book               the last place, where there is one
+--   newest book                     the very last record
+--   NewestAt book i x               the record x stands at place i, the last
+--   Newest book x                   the same, at some place
+--   NewestOrNone book r             r is the very last record, or none in an empty book
 use Rattle.std.specs.Prelude.{◌≡◌, ℕ, suc, ◌+◌, ◌<◌, Bool, true, false, cond, List, [], ◌∷◌, length, Some, None, Option}
 use Rattle.estimating.specs.Tables.{first_then}
 use Rattle.lookup.specs.declared.fit.Whose.{Whose}

@@ -1,8 +1,8 @@
 -- What the six latest records of a book that pass a test come to.
---   total figure xs      a figure summed over a list
---   last_six xs          the last six of a list, or all where it has fewer
---   six_latest ..        how many there are of the six latest that pass, with their usage days and their kWh
---   SixLatest .. r      r is of those that pass from some place on: six, or else all that the book has
+--   total figure xs   a figure summed over a list
+--   last_six xs       the last six of a list, or all where it has fewer
+--   six_latest ..     how many there are of the six latest that pass, with their usage days and their kWh
+--   SixLatest .. r    r is of those that pass from some place on: six, or else all that the book has
 use Rattle.std.specs.Prelude.{◌≡◌, ℕ, ◌+◌, ◌-◌, ◌<◌, ◌≤◌, Bool, List, [], ◌∷◌, length, drop, filter}
 use Rattle.lookup.specs.declared.six.Six.{Six}
 

@@ -1,11 +1,11 @@
 -- The tests by which records are looked up.
---   asked w c q      whether records of the customer c are looked at for the customer q
---   OfWhose w c q   the same as a statement
---   in_season s d    whether the day d is in the season s; never off the calendar
---   available u k    whether an estimate may be made from k kWh in u usage days
+--   asked w c q                whether records of the customer c are looked at for the customer q
+--   OfWhose w c q              the same as a statement
+--   in_season s d              whether the day d is in the season s; never off the calendar
+--   available u k              whether an estimate may be made from k kWh in u usage days
 -- and of a record, by what it tells of its customer, its end day, its usage days and its kWh:
---   a_year_back .. w c d x      whether it is looked at for the customer c, and lies in the month of d, a year earlier
---   in_the_season .. w c s x    whether it is looked at for the customer c, lies in the season s, and is available
+--   a_year_back .. w c d x     whether it is looked at for the customer c, and lies in the month of d, a year earlier
+--   in_the_season .. w c s x   whether it is looked at for the customer c, lies in the season s, and is available
 use Rattle.std.specs.Prelude.{◌≡◌, ℕ, Bool, true, false, ◌&&◌, Some, None, Option, ◌==◌, nat_le, nat_lt}
 use Rattle.calendar.specs.declared.Season.{Season}
 use Rattle.calendar.specs.declared.Season.TheVariants.{Summer, Winter}

@@ -22,20 +22,28 @@ fn listing(heap: Global, bytes: &[u8]) -> Result<String, Fault> {
     }
 }
 
-fn run(rt: &HostRuntime) -> anyhow::Result<()> {
+// A fault is printed here, since its text is longer than what an error of `anyhow` keeps.
+fn run(rt: &HostRuntime) -> anyhow::Result<ExitCode> {
     let mut bytes = Vec::new(rt.alloc());
     rt.stdin()
         .take(MOST_BYTES as u64 + 1)
         .read_to_end(&mut bytes)?;
-    let listing = listing(rt.alloc(), bytes.as_slice())?;
-    print!(rt; "{listing}")?;
-    Ok(())
+    match listing(rt.alloc(), bytes.as_slice()) {
+        Ok(listing) => {
+            print!(rt; "{listing}")?;
+            Ok(ExitCode::SUCCESS)
+        }
+        Err(fault) => {
+            eprintln!(rt; "{fault}")?;
+            Ok(ExitCode::FAILURE)
+        }
+    }
 }
 
 // What is wrong is one line on standard error; where that cannot be written, the status alone tells of it.
 fn main(rt: HostRuntime) -> ExitCode {
     match run(&rt) {
-        Ok(()) => ExitCode::SUCCESS,
+        Ok(status) => status,
         Err(e) => {
             let _ = eprintln!(rt; "{e}");
             ExitCode::FAILURE

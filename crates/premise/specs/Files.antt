@@ -1,11 +1,11 @@
 -- What the calls of a premise's file answer, and what file and book then hold. `table` is what the file's method means,
 -- `higher` what its judgement means.
---   in_use f            how many entries of the book are in use, its first
---   open_run f b        the open entries, those after the last accepted read
---   open_sum f b        their kWh: the carry_over
---   settled_total f b   the kWh of the entries up to the last accepted read
---   usage_days_of f b day  the usage days of a period that ends on that day: its days and the put-off days before it
---   fits f b            the book is as long as at the opening, and each entry in use is sound
+--   in_use f                      how many entries of the book are in use, its first
+--   open_run f b                  the open entries, those after the last accepted read
+--   open_sum f b                  their kWh: the carry-over
+--   settled_total f b             the kWh of the entries up to the last accepted read
+--   usage_days_of f b day         the usage days of a period that ends on that day: its days and the put-off days before it
+--   fits f b                      the book is as long as at the opening, and each entry in use is sound
 --   opens, reads, misses, moves   the outcome of each call
 use Rattle.std.specs.Prelude.{ℕ, ◌+◌, ◌-◌, ◌<◌, Bool, true, false, cond, ◌&&◌, ◌||◌, List, [], ◌∷◌, ◌++◌, length, get_or, take, drop, Some, None, Ok, Err, Option, Result, ◌==◌, nat_le, nat_lt, slice_index_or, slice_set}
 use Rattle.std.specs.Borrow.{Bor}

@@ -1,13 +1,13 @@
 -- The history of a premise's file and of the one book that it was opened with: what was called and answered, and what
 -- holds of every history. `table` is what the file's method means, `higher` what its judgement means.
---   Happening            a call with what it received and what it answered
---   Opened f b           the file f was opened with the book b
---   Happens f b e f' b'  the call e on the file f and the book b leaves f' and b'
---   Lived f b es f' b'   the calls es, one after the other and nothing else, lead from f and b to f' and b'
---   accepted es          how many reads and misses were accepted; accepted_to_read es: of them, up to the last accepted read
---   registers es         the registers that were accepted, in their order
---   advances t p rs      how far a dial that turns at t goes from p to the first of the registers rs, and on to each next
---   Law f0 b0 es f b     what holds after every history es of a file opened as f0 with b0
+--   Happening               a call with what it received and what it answered
+--   Opened f b              the file f was opened with the book b
+--   Happens f b e f' b'     the call e on the file f and the book b leaves f' and b'
+--   Lived f b es f' b'      the calls es, one after the other and nothing else, lead from f and b to f' and b'
+--   accepted es             how many reads and misses were accepted; accepted_to_read es: of them, up to the last accepted read
+--   registers es            the registers that were accepted, in their order
+--   advances t p rs         how far a dial that turns at t goes from p to the first of the registers rs, and on to each next
+--   Law f0 b0 es f b        what holds after every history es of a file opened as f0 with b0
 --   KeepsLaw f b es f' b'   the calls es lead from f and b to f' and b', and the law holds after every history that they end
 use Rattle.std.specs.Prelude.{◌≡◌, ℕ, ◌+◌, ◌-◌, ◌<◌, ◌≤◌, Bool, true, false, cond, ◌⊎◌, List, [], ◌∷◌, ◌++◌, length, get_or, take, drop, Some, None, Ok, Err, Option, Result, ◌==◌, ◌≢◌, slice_index_or}
 use Rattle.measures.specs.Refusals.{no_answer, past_dial}

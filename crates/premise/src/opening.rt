@@ -133,7 +133,7 @@ impl<M, J> PremiseFile<M, J> {
         Ok(book::sum_kwh(&book[0..self.settled as usize]))
     }
 
-    // The kWh of the open entries: the carry_over.
+    // The kWh of the open entries: the carry-over.
     pub fn open_sum(&self, book: &[Entry]) -> Result<u64, u8>
         ensures answer { result ≡ carry_over self.now book.now }
     {

@@ -10,7 +10,7 @@ use Rattle.premise.specs.declared.play.Call.TheVariants.{Read, Miss, Move}
 use Rattle.fields.specs.Numbers.{number_of}
 use Rattle.fields.specs.Pieces.{pieces, first_piece}
 use Rattle.fields.proofs.Named.{knows}
-use Rattle.fields.proofs.Pieces.{Free, EachFree, first_of, piece_front, parted, free_joined}
+use Rattle.fields.proofs.Pieces.{Free, EachFree, first_piece_of, piece_front, parted, free_joined}
 use Rattle.fields.proofs.Texts.{told, free_decimal}
 use Rattle.sheets.specs.declared.fault.SectionFault.TheVariants.{Count, Missing, Line}
 use Rattle.sheets.specs.declared.fault.SheetFault.TheVariants.{Premise, Calls, Rest}
@@ -59,7 +59,7 @@ number_back n h = sym (told (decimal n) (Some n) (refl, h))
 -- the next line of a text
 line_back : (n : ℕ) (l : List (List ℕ)) (ls : List (List (List ℕ))) → EachFree 10 l → line_at n (pieces 10 (written (l ∷ ls))) ≡ Ok (spaced l, pieces 10 (written ls))
 line_back n l ls h =
-    ap (or_fault (Missing n)) (ap first_piece (piece_front 10 (spaced l) (written ls) (free_joined 32 10 l refl h)) ∙ first_of 10 (spaced l) (written ls))
+    ap (or_fault (Missing n)) (ap first_piece (piece_front 10 (spaced l) (written ls) (free_joined 32 10 l refl h)) ∙ first_piece_of 10 (spaced l) (written ls))
 
 module _ (n k low high : ℕ) (name : List ℕ) (free-name : Free 32 name) (small : k < 2 ^ 32) (from : low ≤ k) (to : k ≤ high) where
   count_back : count_at n name low high (spaced (decimal k ∷ name ∷ [])) ≡ Ok k

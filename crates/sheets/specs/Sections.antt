@@ -1,10 +1,10 @@
 -- The sections of a sheet, line by line.
---   lines_from sheet p   the lines from the place p on, with what stands behind the last line end
---   line_at n ls         the next line, which is the line n, and those behind it; a line without its end is missing
---   count_at n .. l      the count on the line n, before a section's name and within its bounds
---   premise_section n ls the opening, and the lines behind its section, whose count line is the line n
---   calls_section n ls   the calls, and the lines behind their section, whose count line is the line n
---   sheet_of bs          the opening and the calls of a whole sheet
+--   lines_from sheet p     the lines from the place p on, with what stands behind the last line end
+--   line_at n ls           the next line, which is the line n, and those behind it; a line without its end is missing
+--   count_at n .. l        the count on the line n, before a section's name and within its bounds
+--   premise_section n ls   the opening, and the lines behind its section, whose count line is the line n
+--   calls_section n ls     the calls, and the lines behind their section, whose count line is the line n
+--   sheet_of bs            the opening and the calls of a whole sheet
 use Rattle.std.specs.Prelude.{◌≡◌, ℕ, zero, suc, ◌+◌, ◌≤◌, Bool, true, false, cond, ◌&&◌, ◌⊎◌, List, [], ◌∷◌, length, drop, Some, None, Ok, Err, codes, Option, Result, nat_le, nat_lt}
 use Rattle.std.specs.Borrow.{Bor}
 use Rattle.premise.specs.declared.play.Call.{Call}

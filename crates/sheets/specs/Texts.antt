@@ -3,7 +3,7 @@
 --   call_fields c      the fields of a call's line: its letter and its numbers
 --   sheet_lines o cs   the lines of a sheet, each by its fields
 --   sheet_text o cs    the bytes of a sheet: one space between fields, and each line ended
---   TextOf bs o cs    bs is that text, within the limits of a sheet
+--   TextOf bs o cs     bs is that text, within the limits of a sheet
 --   Fits o cs          numbers of 32 bits, at most 240 calls, and at most 8,192 bytes
 use Rattle.std.specs.Prelude.{◌≡◌, ℕ, ◌^◌, ◌<◌, ◌≤◌, List, [], ◌∷◌, ◌++◌, map, length, codes, decimal}
 use Rattle.measures.specs.Rate.{name_of}
