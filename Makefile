@@ -3,13 +3,14 @@
 
 kit := $(dir $(shell rt doc))
 out := build
+sources := $(shell find crates -name out -prune -o \( -name '*.rt' -o -name '*.antt' \) -print)
 
 .PHONY: library example-c example-rust example-python compare measure robust clean
 
 # A static and a shared library. The proof is made on the way.
 library: $(out)/libpekstuvna.so
 
-$(out)/libpekstuvna.a: $(shell find crates -name out -prune -o \( -name '*.rt' -o -name '*.antt' \) -print)
+$(out)/libpekstuvna.a: $(sources)
 	cd crates/exports_c && rt lib
 	mkdir -p $(out)
 	cp crates/exports_c/out/libexports_c.a $@
@@ -43,7 +44,7 @@ measure: library crates/pekstuvna/out/pekstuvna
 robust: crates/pekstuvna/out/pekstuvna
 	bench/robust.sh crates/pekstuvna/out/pekstuvna
 
-crates/pekstuvna/out/pekstuvna:
+crates/pekstuvna/out/pekstuvna: $(sources)
 	cd crates/pekstuvna && rt run > /dev/null
 
 clean:

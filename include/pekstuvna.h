@@ -1,8 +1,7 @@
 /* Pekstuvna from C: estimated electricity bills, by the rules in docs/RULES.md.
  *
  * Every function answers a number of 0 or more where the call is accepted, and the number of the refusal, negative,
- * where it is not: -29 for refusal 29. A refused call writes nothing. Functions keep no state, and may be called from
- * several threads at a time as long as each lends memory of its own.
+ * where it is not: -29 for refusal 29. A refused call writes nothing. Functions keep no state.
  *
  * No pointer may be NULL, not even before a count of 0, and what a function writes may not overlap with anything else
  * that it is lent.
