@@ -45,7 +45,7 @@ robust: crates/pekstuvna/out/pekstuvna
 	bench/robust.sh crates/pekstuvna/out/pekstuvna
 
 crates/pekstuvna/out/pekstuvna: $(sources)
-	cd crates/pekstuvna && rt run > /dev/null
+	cd crates/pekstuvna && rt run < stdin > /dev/null
 
 clean:
 	rm -rf $(out)
