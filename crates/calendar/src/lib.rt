@@ -39,11 +39,11 @@ pub fn month_of(day: u32) -> Option<u32>
     let lengths = month_lengths();
     let cycle = day / CYCLE;
     let mut left = day % CYCLE;
-    for i in 0..48usize {
-        if left < lengths[i] {
+    for (i, length) in lengths.iter().enumerate() {
+        if left < *length {
             return Some(cycle * 48 + i as u32);
         }
-        left -= lengths[i];
+        left -= *length;
     }
     unreachable()
 }

@@ -15,9 +15,7 @@ pub fn answer(heap: Global, lines: &[&str]) -> anyhow::Result<String> {
     let [asked, entries @ ..] = lines else {
         return Err(wrong());
     };
-    let Some((name, words)) = asked.split_once(' ') else {
-        return Err(wrong());
-    };
+    let (name, words) = asked.split_once(' ').ok_or_else(wrong)?;
     match name {
         "ladder" | "rung" => rungs::answer(heap, name, words, entries),
         "month" | "season" | "weekend" | "year-before" => on_calendar(heap, name, words),
@@ -29,10 +27,10 @@ pub fn answer(heap: Global, lines: &[&str]) -> anyhow::Result<String> {
 
 fn on_calendar(heap: Global, name: &str, words: &str) -> anyhow::Result<String> {
     if name == "year-before" {
-        let days = numbers_in::<2>(words)?;
-        return told(heap, calendar::is_year_before(days[0], days[1]));
+        let [earlier, later] = numbers_in::<2>(words)?;
+        return told(heap, calendar::is_year_before(earlier, later));
     }
-    let day = numbers_in::<1>(words)?[0];
+    let [day] = numbers_in::<1>(words)?;
     match name {
         "month" => number_or_none(heap, calendar::month_of(day)),
         "weekend" => told(heap, calendar::is_weekend(day)),
@@ -54,22 +52,21 @@ fn judged(heap: Global, name: &str, words: &str) -> anyhow::Result<String> {
     if name == "day" {
         return judged_by_day(heap, words);
     }
-    let numbers = numbers_in::<3>(words)?;
-    let (advance, sum, days) = (numbers[0] as u64, numbers[1] as u64, numbers[2] as u64);
+    let [advance, sum, days] = numbers_in::<3>(words)?;
     let higher = match name {
-        "half" => ByHalf.is_higher(advance, sum, days),
-        _ => Never.is_higher(advance, sum, days),
+        "half" => ByHalf.is_higher(advance as u64, sum as u64, days as u64),
+        _ => Never.is_higher(advance as u64, sum as u64, days as u64),
     };
     told(heap, higher)
 }
 
 fn judged_by_day(heap: Global, words: &str) -> anyhow::Result<String> {
-    let numbers = numbers_in::<4>(words)?;
-    match ByDay::new(numbers[0]) {
-        Ok(by_day) => {
-            let (advance, sum, days) = (numbers[1] as u64, numbers[2] as u64, numbers[3] as u64);
-            told(heap, by_day.is_higher(advance, sum, days))
-        }
+    let [limit, advance, sum, days] = numbers_in::<4>(words)?;
+    match ByDay::new(limit) {
+        Ok(by_day) => told(
+            heap,
+            by_day.is_higher(advance as u64, sum as u64, days as u64),
+        ),
         Err(number) => refused(heap, number),
     }
 }
@@ -98,26 +95,24 @@ fn figure(heap: Global, name: &str, words: &str) -> anyhow::Result<String> {
 }
 
 fn advanced(heap: Global, words: &str) -> anyhow::Result<String> {
-    let numbers = numbers_in::<3>(words)?;
-    match advance(numbers[0], numbers[1], numbers[2]) {
+    let [digits, from, to] = numbers_in::<3>(words)?;
+    match advance(digits, from, to) {
         Ok(kwh) => Ok(format!(in heap; "{kwh}\n")?),
         Err(number) => refused(heap, number),
     }
 }
 
 fn estimated(heap: Global, words: &str) -> anyhow::Result<String> {
-    let numbers = numbers_in::<3>(words)?;
-    let kwh = pekstuvna_estimate(numbers[0], numbers[1], numbers[2]);
+    let [basis_kwh, days, usage_days] = numbers_in::<3>(words)?;
+    let kwh = pekstuvna_estimate(basis_kwh, days, usage_days);
     Ok(format!(in heap; "{kwh}\n")?)
 }
 
 // Whether a fixed basis is taken.
 fn fixed(heap: Global, words: &str) -> anyhow::Result<String> {
-    let numbers = numbers_in::<2>(words)?;
-    let Ok(days) = u16::try_from(numbers[1]) else {
-        return Err(wrong());
-    };
-    match Fixed::new(numbers[0], days) {
+    let [kwh, days] = numbers_in::<2>(words)?;
+    let days = u16::try_from(days).map_err(|_| wrong())?;
+    match Fixed::new(kwh, days) {
         Ok(_) => told(heap, true),
         Err(number) => refused(heap, number),
     }

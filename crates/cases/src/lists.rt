@@ -11,7 +11,7 @@ pub fn share(heap: Global, lines: &[&str]) -> anyhow::Result<String> {
     let [total, records @ ..] = lines else {
         return Err(wrong());
     };
-    let total = numbers_in::<1>(total)?[0];
+    let [total] = numbers_in::<1>(total)?;
     let mut portions = Vec::new(heap);
     for line in records {
         portions.push(portion_in(line)?)?;
@@ -23,17 +23,17 @@ pub fn share(heap: Global, lines: &[&str]) -> anyhow::Result<String> {
     let mut text = String::new(heap);
     for portion in portions.iter() {
         let share = portion.share;
-        text.push_str(format!(in heap; "{share}\n")?.as_str())?;
+        writeln!(text, "{share}")?;
     }
     Ok(text)
 }
 
 fn portion_in(line: &str) -> anyhow::Result<Portion> {
-    let numbers = numbers_in::<3>(line)?;
+    let [takes_part, weight, share] = numbers_in::<3>(line)?;
     Ok(Portion {
-        takes_part: numbers[0],
-        weight: numbers[1],
-        share: numbers[2],
+        takes_part,
+        weight,
+        share,
     })
 }
 
@@ -42,12 +42,8 @@ pub fn demand(heap: Global, lines: &[&str]) -> anyhow::Result<String> {
     let [asked, entries @ ..] = lines else {
         return Err(wrong());
     };
-    let Some((words, initial)) = asked.rsplit_once(' ') else {
-        return Err(wrong());
-    };
-    let Some((words, rate)) = words.rsplit_once(' ') else {
-        return Err(wrong());
-    };
+    let (words, initial) = asked.rsplit_once(' ').ok_or_else(wrong)?;
+    let (words, rate) = words.rsplit_once(' ').ok_or_else(wrong)?;
     let period = period_in(words, initial)?;
     let mut book = Vec::new(heap);
     for line in entries {
@@ -62,25 +58,25 @@ pub fn demand(heap: Global, lines: &[&str]) -> anyhow::Result<String> {
 }
 
 fn period_in(words: &str, initial: &str) -> anyhow::Result<Period> {
-    let numbers = numbers_in::<4>(words)?;
-    let initial = numbers_in::<1>(initial)?[0];
+    let [customer, end_day, kwh, usage_days] = numbers_in::<4>(words)?;
+    let [initial] = numbers_in::<1>(initial)?;
     Ok(Period {
-        customer: numbers[0],
-        end_day: numbers[1],
-        kwh: numbers[2],
-        usage_days: numbers[3],
+        customer,
+        end_day,
+        kwh,
+        usage_days,
         initial,
     })
 }
 
 fn reading_in(line: &str) -> anyhow::Result<Reading> {
-    let numbers = numbers_in::<5>(line)?;
+    let [customer, end_day, tenths, mark, initial] = numbers_in::<5>(line)?;
     Ok(Reading {
-        customer: numbers[0],
-        end_day: numbers[1],
-        tenths: numbers[2],
-        mark: numbers[3],
-        initial: numbers[4],
+        customer,
+        end_day,
+        tenths,
+        mark,
+        initial,
     })
 }
 
@@ -109,30 +105,24 @@ pub fn fill(heap: Global, lines: &[&str]) -> anyhow::Result<String> {
     }
     let mut text = format!(in heap; "{filled}\n")?;
     for interval in intervals.iter() {
-        let wh = interval.wh;
-        let weight = interval.weight;
-        let mark = interval.mark;
-        text.push_str(format!(in heap; "{wh} {weight} {mark}\n")?.as_str())?;
+        let Metered { wh, weight, mark } = *interval;
+        writeln!(text, "{wh} {weight} {mark}")?;
     }
     Ok(text)
 }
 
 fn span_in(line: &str) -> anyhow::Result<Span> {
-    let numbers = numbers_in::<3>(line)?;
+    let [slots, first_day, total] = numbers_in::<3>(line)?;
     Ok(Span {
-        slots: numbers[0],
-        first_day: numbers[1],
-        total: numbers[2],
+        slots,
+        first_day,
+        total,
     })
 }
 
 fn interval_in(line: &str) -> anyhow::Result<Metered> {
-    let numbers = numbers_in::<3>(line)?;
-    Ok(Metered {
-        wh: numbers[0],
-        weight: numbers[1],
-        mark: numbers[2],
-    })
+    let [wh, weight, mark] = numbers_in::<3>(line)?;
+    Ok(Metered { wh, weight, mark })
 }
 
 // The line of a refusal, whose number is negative.

@@ -5,55 +5,59 @@
 mod asked;
 mod cases;
 mod lists;
-mod played;
 mod rungs;
-mod tally;
 mod words;
 
-use anyhow::anyhow;
-use cases::{Subject, compare_cases};
-use played::compare_sheets;
+use cases::compare_cases;
+use comparing::{cases_of, compare_sheets};
+use std::alloc::Global;
 use std::io;
-use tally::Tally;
+use tallies::report::{Group, end};
+use tallies::tally::Tally;
 
 // The folder of sheets, each of which is refused.
 const SHEETS: &str = "refused";
 
-// The files of cases, and what they ask about.
-const CASES: [(&str, Subject); 7] = [
-    ("worked.txt", Subject::Worked),
-    ("worked-sharing.txt", Subject::Sharing),
-    ("worked-demand.txt", Subject::Demand),
-    ("worked-intervals.txt", Subject::Intervals),
-    ("sharing.txt", Subject::Sharing),
-    ("demand.txt", Subject::Demand),
-    ("intervals.txt", Subject::Intervals),
-];
+// Tells of a group, and adds it to all.
+fn add_group(
+    rt: &HostRuntime,
+    all: &mut Tally,
+    name: &str,
+    cases: &str,
+    tally: Tally,
+) -> io::Result<()> {
+    let group = Group { name, cases, tally };
+    println!(rt; "{group}")?;
+    *all += tally;
+    Ok(())
+}
 
-// The line of a group.
-fn tell(rt: &HostRuntime, group: &str, cases: &str, tally: Tally) -> io::Result<()> {
-    let compared = tally.compared;
-    let differing = tally.differing;
-    if tally.is_good() {
-        println!(rt; "{group}: {compared} {cases}, all as expected")
-    } else {
-        println!(rt; "{group}: {compared} {cases}, {differing} not as expected")
-    }
+// Compares the cases of a file with what the call answers.
+fn add_file<F: Fn(Global, &[&str]) -> anyhow::Result<String>>(
+    rt: &HostRuntime,
+    all: &mut Tally,
+    file: &str,
+    answer: &F,
+) -> anyhow::Result<()>
+    requires { F.IsAlwaysCallable answer.now }
+{
+    let tally = compare_cases(rt, file, answer)?;
+    add_group(rt, all, file, "cases", tally)?;
+    Ok(())
 }
 
 fn run(rt: &HostRuntime) -> anyhow::Result<()> {
-    let mut all = compare_sheets(rt, SHEETS)?;
-    tell(rt, SHEETS, "sheets", all)?;
-    for (file, subject) in CASES {
-        let tally = compare_cases(rt, file, subject)?;
-        tell(rt, file, "cases", tally)?;
-        all.add(tally);
-    }
-    tell(rt, "in all", "cases", all)?;
-    if !all.is_good() {
-        return Err(anyhow!("not all is as expected"));
-    }
-    Ok(())
+    let mut all = Tally::default();
+    let sheets = compare_sheets(rt, &cases_of(rt, SHEETS)?)?;
+    add_group(rt, &mut all, SHEETS, "sheets", sheets)?;
+    add_file(rt, &mut all, "worked.txt", &asked::answer)?;
+    add_file(rt, &mut all, "worked-sharing.txt", &lists::share)?;
+    add_file(rt, &mut all, "worked-demand.txt", &lists::demand)?;
+    add_file(rt, &mut all, "worked-intervals.txt", &lists::fill)?;
+    add_file(rt, &mut all, "sharing.txt", &lists::share)?;
+    add_file(rt, &mut all, "demand.txt", &lists::demand)?;
+    add_file(rt, &mut all, "intervals.txt", &lists::fill)?;
+    end(rt, all)
 }
 
 fn main(rt: HostRuntime) -> anyhow::Result<()> {

@@ -19,61 +19,41 @@ pub fn answer(heap: Global, name: &str, words: &str, entries: &[&str]) -> anyhow
     for line in entries {
         book.push(entry_in(line)?)?;
     }
-    let Some((numbers, rate)) = words.rsplit_once(' ') else {
-        return Err(wrong());
-    };
+    let (numbers, rate) = words.rsplit_once(' ').ok_or_else(wrong)?;
     let rate = rate_in(rate)?;
     let basis = if name == "ladder" {
-        let asked = numbers_in::<2>(numbers)?;
-        standard_answer(book.as_slice(), &question(asked[0], asked[1], rate)?)
+        let [customer, end_day] = numbers_in::<2>(numbers)?;
+        standard_answer(book.as_slice(), &question(customer, end_day, rate)?)
     } else {
-        let asked = numbers_in::<3>(numbers)?;
-        on_rung(
-            asked[0],
-            book.as_slice(),
-            &question(asked[1], asked[2], rate)?,
-        )
+        let [rung, customer, end_day] = numbers_in::<3>(numbers)?;
+        on_rung(rung, book.as_slice(), &question(customer, end_day, rate)?)
     };
     match basis {
-        Some(found) => {
-            let rung = found.rung;
-            let kwh = found.kwh;
-            let days = found.days;
-            Ok(format!(in heap; "{rung} {kwh} {days}\n")?)
-        }
+        Some(Basis { rung, kwh, days }) => Ok(format!(in heap; "{rung} {kwh} {days}\n")?),
         None => Ok(format!(in heap; "none\n")?),
     }
 }
 
 fn question(customer: u32, end_day: u32, rate: Rate) -> anyhow::Result<Question> {
-    let Ok(end_day) = u16::try_from(end_day) else {
-        return Err(wrong());
-    };
     Ok(Question {
         customer,
         start_day: 0,
-        end_day,
+        end_day: u16::try_from(end_day).map_err(|_| wrong())?,
         rate,
     })
 }
 
 fn entry_in(line: &str) -> anyhow::Result<Entry> {
-    let numbers = numbers_in::<5>(line)?;
-    let Ok(end_day) = u16::try_from(numbers[1]) else {
-        return Err(wrong());
-    };
-    let Ok(usage_days) = u8::try_from(numbers[2]) else {
-        return Err(wrong());
-    };
+    let [customer, end_day, usage_days, initial, kwh] = numbers_in::<5>(line)?;
     Ok(Entry {
-        customer: numbers[0],
-        end_day,
+        customer,
+        end_day: u16::try_from(end_day).map_err(|_| wrong())?,
         days: 30,
-        usage_days,
+        usage_days: u8::try_from(usage_days).map_err(|_| wrong())?,
         kind: Kind::Estimated,
         rung: 1,
-        initial: numbers[3] != 0,
-        kwh: numbers[4],
+        initial: initial != 0,
+        kwh,
     })
 }
 

@@ -28,7 +28,7 @@ use Rattle.premise.specs.Files.{in_use, opens}
 use Rattle.premise.specs.History.{Law}
 use Rattle.premise.specs.Plays.{played}
 use Rattle.sheets.specs.declared.fault.SheetFault.{SheetFault}
-use Rattle.sheets.specs.declared.line.Opening.{Opening}
+use Rattle.premise.specs.declared.opening.Opening.{Opening}
 use Rattle.sheets.specs.declared.notice.Notice.{Notice}
 use Rattle.sheets.specs.declared.notice.Section.TheVariants.{Premise}
 use Rattle.sheets.specs.Notices.{notice_of}

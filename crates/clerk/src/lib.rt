@@ -12,11 +12,11 @@ use judging::ByHalf;
 use ladder::standard::{StandardMethod, standard_method};
 use listing::list::{LEAST_BUFFER, list};
 use listing::refused::list_refusal;
-use measures::entry::{Entry, Kind};
+use measures::entry::Entry;
 use premise::file::PremiseFile;
 use premise::happening::Happening;
+use premise::opening::Opening;
 use premise::play::Call;
-use sheets::line::Opening;
 use sheets::notice::{Notice, Section};
 use sheets::sheet::read_sheet;
 use std::alloc::{AllocError, Global};
@@ -44,17 +44,6 @@ pub const PLACES: usize = 240;
 // The line of a sheet that its opening stands on.
 const OPENING_LINE: u32 = 2;
 
-const BLANK: Entry = Entry {
-    customer: 0,
-    end_day: 0,
-    days: 0,
-    usage_days: 0,
-    kind: Kind::Actual,
-    rung: 0,
-    initial: false,
-    kwh: 0,
-};
-
 // Plays a sheet by the standard method and the judgement by half on a book of 240 places, and writes its listing, or the
 // line of its refusal, to the front of the buffer. It answers how many bytes that is.
 pub fn list_sheet(heap: Global, sheet: &[u8], buffer: &mut [u8]) -> Result<usize, Unlisted>
@@ -74,23 +63,19 @@ fn list_bytes(heap: Global, sheet: &[u8], buffer: &mut [u8]) -> Result<usize, Un
     }
     match read_sheet(heap, sheet) {
         Ok(read) => list_history(heap, read.opening, read.calls.as_slice(), buffer),
-        Err(fault) => match fault.notice() {
-            Some(notice) => Ok(list_notice(notice, buffer)),
-            None => Err(Unlisted::Memory),
-        },
+        Err(fault) => {
+            let notice = fault.notice().ok_or(Unlisted::Memory)?;
+            list_notice(notice, buffer)
+        }
     }
 }
 
 // The line of a refusal.
-fn list_notice(notice: Notice, buffer: &mut [u8]) -> usize
-    requires room { 16384 ≤ length buffer.old }
-    ensures text { Listed (notice_line notice) buffer.old buffer.new result }
-    ensures room { result ≤ 15624 }
+fn list_notice(notice: Notice, buffer: &mut [u8]) -> Result<usize, Unlisted>
+    ensures text { MatchResult result (Listed (notice_line notice) buffer.old buffer.new) (NotListed buffer.old buffer.new) }
+    ensures room { IfOk result (λ n. n ≤ 15624) }
 {
-    match list_refusal(notice, buffer) {
-        Ok(count) => count,
-        Err(_) => unreachable(),
-    }
+    list_refusal(notice, buffer).map_err(|_| Unlisted::Buffer)
 }
 
 // The listing of a history.
@@ -105,31 +90,22 @@ fn list_history(
     ensures text { MatchResult result (Listed (history_listing opening calls.now) buffer.old buffer.new) (NotListed buffer.old buffer.new) }
     ensures room { IfOk result (λ n. n ≤ 15624) }
 {
-    let mut book = [BLANK; PLACES];
-    let opened = PremiseFile::open(
-        standard_method(),
-        ByHalf,
-        opening.rate,
-        opening.digits,
-        opening.day,
-        opening.register,
-        opening.customer,
-        &book,
-    );
+    let mut book = [Entry::BLANK; PLACES];
+    let opened = PremiseFile::open(standard_method(), ByHalf, &opening, &book);
     match opened {
         Ok(mut file) => {
             let happened = file.play(heap, &mut book, calls)?;
-            Ok(list_played(&file, &book, happened.as_slice(), buffer))
+            list_played(&file, &book, happened.as_slice(), buffer)
         }
-        Err(number) => Ok(list_notice(
-            Notice {
+        Err(number) => {
+            let notice = Notice {
                 section: Section::Premise,
                 line: OPENING_LINE,
                 field: 0,
                 number,
-            },
-            buffer,
-        )),
+            };
+            list_notice(notice, buffer)
+        }
     }
 }
 
@@ -139,19 +115,15 @@ fn list_played(
     book: &[Entry],
     happened: &[Happening],
     buffer: &mut [u8],
-) -> usize
-    requires room { 16384 ≤ length buffer.old }
+) -> Result<usize, Unlisted>
     requires own { fits file.now book.now ≡ true }
     requires places { length book.now ≤ 240 }
     requires few { length happened.now ≤ 240 }
-    ensures text { Listed (listing happened.now (take (in_use file.now) book.now)) buffer.old buffer.new result }
-    ensures room { result ≤ 15624 }
+    ensures text { MatchResult result (Listed (listing happened.now (take (in_use file.now) book.now)) buffer.old buffer.new) (NotListed buffer.old buffer.new) }
+    ensures room { IfOk result (λ n. n ≤ 15624) }
 {
     let Ok(entries) = file.entries(book) else {
         unreachable()
     };
-    match list(happened, entries, buffer) {
-        Ok(count) => count,
-        Err(_) => unreachable(),
-    }
+    list(happened, entries, buffer).map_err(|_| Unlisted::Buffer)
 }

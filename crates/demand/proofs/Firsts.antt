@@ -1,5 +1,6 @@
 -- The call answers by the first answer that there is.
 use Rattle.std.proofs.Common.{◌≡◌, ℕ, zero, suc, Bool, true, false, cond, ◌&&◌, eqb, ltb, leb, ◌⊎◌, List, length, get_or, Some, None, Ok, Err, Option, Result, sym, refl, ap, ◌∙◌, inl, inr, ⊎_elim, arith}
+use Rattle.std.specs.Option.{ok_or}
 use Rattle.std.proofs.lemmas.Bool.{cond-true, cond-false, cases_Bool, and_parts, and_from, leb-true, ltb-true, ltb-false, eqb-false, le-leb, lt-ltb, le-ltb, ne_eqb}
 use Rattle.measures.specs.Refusals.{no_answer}
 use Rattle.measures.specs.Rate.{load_factor}
@@ -61,6 +62,11 @@ in_turn m book q =
 
 pub in_turn_first : (m : _) (book : List DemandEntry) (q : DemandQuestion) → m ≡ demand_makes → in_turn m book q ≡ first_answer book q
 in_turn_first m book q e = ap (λ z. in_turn z book q) e
+
+-- the library's word for the same
+pub refused_is : (r : Option DemandAnswer) → ok_or r no_answer ≡ or_refused r
+refused_is (Some a) = refl
+refused_is None = refl
 
 first_answer_is : (book : List DemandEntry) (q : DemandQuestion) → first_answer book q ≡ first_among (answers_by_number book q)
 first_answer_is book q =

@@ -14,8 +14,7 @@ use Rattle.std.specs.Prelude.{◌≡◌, ℕ, ◌+◌, ◌*◌, ◌/◌, ◌<◌
 use Rattle.calendar.specs.Calendar.{SameMonthNextYear}
 use Rattle.measures.specs.Rate.{load_factor}
 use Rattle.lookup.specs.declared.fit.Whose.{Whose}
-use Rattle.lookup.specs.declared.fit.Whose.TheVariants.{Customer, Anyone}
-use Rattle.lookup.specs.Tests.{asked, OfWhose, a_year_back}
+use Rattle.lookup.specs.Tests.{pick, asked, OfWhose, a_year_back}
 use Rattle.lookup.specs.Places.{record_at, record_before}
 use Rattle.lookup.specs.Latest.{latest_place, LatestAt, newest_place, NewestAt}
 use Rattle.demand.specs.declared.entry.DemandEntry.{DemandEntry}
@@ -24,8 +23,7 @@ use Rattle.demand.specs.declared.question.DemandAnswer.{DemandAnswer}
 use Rattle.demand.specs.Readings.{counts_as_estimated}
 
 abbrev pub number_for : ℕ → Whose → ℕ
-number_for n Customer = n
-number_for n Anyone = n + 2
+number_for n w = pick w n (n + 2)
 
 abbrev pub answer_of : ℕ → DemandEntry → DemandAnswer
 answer_of n e = record { number = n; tenths = e.tenths }

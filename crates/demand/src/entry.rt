@@ -13,23 +13,24 @@ pub enum Mark {
     Estimated,
 }
 
-impl Mark {
-    // The number that stands for the mark.
-    pub fn number(self) -> u32
-        ensures answer { result ≡ mark_number self }
-        ensures back { mark_of result ≡ self }
-    {
-        match self {
+// The number that stands for a mark.
+impl From<Mark> for u32 {
+    ghost from_gives = { λ mark r. (r ≡ mark_number mark) × (mark_of r ≡ mark) };
+
+    fn from(mark: Mark) -> u32 {
+        match mark {
             Mark::ReadAndReset => 1,
             Mark::NotReset => 2,
             Mark::Estimated => 0,
         }
     }
+}
 
-    // The mark that a number stands for: 1, 2, and any other for an estimate.
-    pub fn of_number(number: u32) -> Mark
-        ensures answer { result ≡ mark_of number }
-    {
+// The mark that a number stands for: 1, 2, and any other for an estimate.
+impl From<u32> for Mark {
+    ghost from_gives = { λ number r. r ≡ mark_of number };
+
+    fn from(number: u32) -> Mark {
         match number {
             1 => Mark::ReadAndReset,
             2 => Mark::NotReset,
@@ -96,11 +97,11 @@ mod tests {
 
     #[test]
     fn marks(rt: HostRuntime) {
-        assert_eq!(rt; Mark::of_number(1), Mark::ReadAndReset);
-        assert_eq!(rt; Mark::of_number(2), Mark::NotReset);
-        assert_eq!(rt; Mark::of_number(0), Mark::Estimated);
-        assert_eq!(rt; Mark::of_number(3), Mark::Estimated);
-        assert_eq!(rt; Mark::NotReset.number(), 2);
+        assert_eq!(rt; Mark::from(1), Mark::ReadAndReset);
+        assert_eq!(rt; Mark::from(2), Mark::NotReset);
+        assert_eq!(rt; Mark::from(0), Mark::Estimated);
+        assert_eq!(rt; Mark::from(3), Mark::Estimated);
+        assert_eq!(rt; u32::from(Mark::NotReset), 2);
     }
 
     // Whether a reading counts as estimated, directly after one of 50 tenths.

@@ -68,10 +68,9 @@ pub fn demand_of(book: &[DemandEntry], question: &DemandQuestion) -> Result<Dema
     if !question.has_good_figures() {
         return Err(refusal::FIGURES);
     }
-    match demand_method().answer(book, question) {
-        Some(answer) => Ok(answer),
-        None => Err(refusal::NO_ANSWER),
-    }
+    demand_method()
+        .answer(book, question)
+        .ok_or(refusal::NO_ANSWER)
 }
 
 #[cfg(test)]

@@ -1,6 +1,6 @@
 // The answers about demand, each a method of its own.
 ghost use Rattle.std.specs.Prelude.{◌≡◌, ◌≤◌, Some};
-ghost use Rattle.demand.specs.Answers.{number_for, answer_at, short_initial, OnShortInitial, last_reading, OnLastReading, reading_year_back, OnYearBack, by_load_factor, OnLoadFactor};
+ghost use Rattle.demand.specs.Answers.{answer_at, short_initial, OnShortInitial, last_reading, OnLastReading, reading_year_back, OnYearBack, by_load_factor, OnLoadFactor};
 
 use crate::entry::DemandEntry;
 use crate::question::{DemandAnswer, DemandQuestion};
@@ -30,17 +30,6 @@ pub struct YearBackReading {
 // From the kWh by the load factor of the rate: answer 6.
 #[derive(Clone, Copy)]
 pub struct LoadFactor;
-
-// The number of an answer.
-fn number_for(own: u8, whose: Whose) -> u8
-    requires { own ≤ 2 }
-    ensures { result ≡ number_for own whose }
-{
-    match whose {
-        Whose::Customer => own,
-        Whose::Anyone => own + 2,
-    }
-}
 
 // The answer from the reading at a place, if it is looked at for the customer, is not initial and does not count as estimated.
 fn answer_at(
@@ -75,7 +64,7 @@ fn by_last_reading(
     ensures { result ≡ last_reading whose book.now question.now }
 {
     let place = latest::newest_place(book)?;
-    answer_at(number_for(1, whose), whose, question, book, place)
+    answer_at(whose.pick(1, 3), whose, question, book, place)
 }
 
 fn by_year_back(
@@ -85,8 +74,12 @@ fn by_year_back(
 ) -> Option<DemandAnswer>
     ensures { result ≡ reading_year_back whose book.now question.now }
 {
-    let place = latest::year_back_place(book, whose, question.customer, question.end_day)?;
-    answer_at(number_for(2, whose), whose, question, book, place)
+    let of_customer = OfCustomer {
+        whose,
+        customer: question.customer,
+    };
+    let place = latest::year_back_place(book, of_customer, question.end_day)?;
+    answer_at(whose.pick(2, 4), whose, question, book, place)
 }
 
 impl Method for ShortInitial {

@@ -23,10 +23,9 @@ impl<F: Method, S: Method<Entry = F::Entry, Question = F::Question, Answer = F::
     ghost table = { λ m book q. first_then (F.Method.table m.first book q) (S.Method.table m.second book q) };
 
     fn answer(&self, book: &[F::Entry], question: &F::Question) -> Option<F::Answer> {
-        match self.first.answer(book, question) {
-            Some(answer) => Some(answer),
-            None => self.second.answer(book, question),
-        }
+        self.first
+            .answer(book, question)
+            .or_else(|| self.second.answer(book, question))
     }
 }
 

@@ -1,3 +1,1 @@
 pub mod Copies
-pub mod Bounds
-pub mod Long

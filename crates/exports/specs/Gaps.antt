@@ -5,17 +5,11 @@
 use Rattle.std.specs.Prelude.{ℕ, cond, ◌||◌, List, ◌==◌}
 use Rattle.std.specs.Borrow.{Bor}
 use Rattle.measures.specs.Refusals.{bad_slots, not_whole_days}
-use Rattle.intervals.specs.declared.interval.Mark.{Mark}
-use Rattle.intervals.specs.declared.interval.Mark.TheVariants.{Valid, Missing, Filled}
 use Rattle.intervals.specs.declared.interval.Interval.{Interval}
 use Rattle.intervals.specs.declared.month.Month.{Month}
-use Rattle.intervals.specs.Intervals.{mark_number}
+use Rattle.intervals.specs.Intervals.{mark_number, mark_of}
 use Rattle.exports.specs.declared.gaps.Metered.{Metered}
 use Rattle.exports.specs.declared.gaps.Span.{Span}
-
--- 0 is valid, 1 missing, and any other filled
-abbrev pub mark_of : ℕ → Mark
-mark_of n = cond (n == 0) Valid (cond (n == 1) Missing Filled)
 
 abbrev pub interval_of : Metered → Interval
 interval_of x = record { wh = x.wh; weight = x.weight; mark = mark_of x.mark }

@@ -1,21 +1,12 @@
 // The records of one list copied to another, each as what it stands for.
-ghost use Rattle.std.specs.Prelude.{◌≡◌, map, length};
+ghost use Rattle.std.specs.Prelude.{◌≡◌, length};
+ghost use Rattle.std.specs.List.{AllZip};
 
-pub(crate) trait StandsFor {
-    type Of: Drop;
-
-    // what the record stands for
-    ghost stands: { Self → Self.Of };
-
-    fn meant(&self) -> Self::Of
-        ensures { result ≡ stands self.now };
-}
-
-pub(crate) fn copy_meant<A: StandsFor>(from: &[A], to: &mut [A::Of])
+pub(crate) fn copy_from<A: Copy, B: From<A> + Drop>(from: &[A], to: &mut [B])
     requires { length from.now ≡ length to.old }
-    ensures { to.new ≡ map A.stands from.now }
+    ensures { AllZip B.from_gives from.now to.new }
 {
     for (place, record) in from.iter().enumerate() {
-        to[place] = record.meant();
+        to[place] = B::from(*record);
     }
 }

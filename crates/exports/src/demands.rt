@@ -5,7 +5,7 @@ ghost use Rattle.exports.specs.Answers.{answered};
 ghost use Rattle.exports.specs.Demands.{entry_of, demanded, number_in, tenths_in, too_long};
 
 use crate::answer::number_of;
-use crate::copy::{StandsFor, copy_meant};
+use crate::copy::copy_from;
 use demand::entry::{DemandEntry, Mark};
 use demand::question::{DemandAnswer, DemandQuestion};
 use demand::{MOST_ENTRIES, demand_of};
@@ -36,18 +36,16 @@ pub struct Period {
     pub initial: u32,
 }
 
-impl StandsFor for Reading {
-    type Of = DemandEntry;
+impl From<Reading> for DemandEntry {
+    ghost from_gives = { λ reading entry. entry ≡ entry_of reading };
 
-    ghost stands = { entry_of };
-
-    fn meant(&self) -> DemandEntry {
+    fn from(reading: Reading) -> DemandEntry {
         DemandEntry {
-            customer: self.customer,
-            end_day: self.end_day,
-            tenths: self.tenths,
-            mark: Mark::of_number(self.mark),
-            initial: self.initial != 0,
+            customer: reading.customer,
+            end_day: reading.end_day,
+            tenths: reading.tenths,
+            mark: Mark::from(reading.mark),
+            initial: reading.initial != 0,
         }
     }
 }
@@ -77,9 +75,7 @@ pub fn pekstuvna_demand(book: &[Reading], period: &Period, rate: &[u8], tenths: 
 fn demanded(book: &[Reading], period: &Period, rate: &[u8]) -> Result<DemandAnswer, u8>
     ensures { result ≡ demanded (map entry_of book.now) period.now rate.now }
 {
-    let Some(rate) = rate_of(rate) else {
-        return Err(refusal::FIELD);
-    };
+    let rate = rate_of(rate).ok_or(refusal::FIELD)?;
     let question = DemandQuestion {
         customer: period.customer,
         end_day: period.end_day,
@@ -110,6 +106,6 @@ fn demand_in(book: &[Reading], question: &DemandQuestion) -> Result<DemandAnswer
 {
     let mut copy = [BLANK; MOST_ENTRIES];
     let entries = &mut copy[..book.len()];
-    copy_meant(book, entries);
+    copy_from(book, entries);
     demand_of(entries, question)
 }

@@ -5,7 +5,7 @@ ghost use Rattle.exports.specs.Answers.{answered};
 ghost use Rattle.exports.specs.Gaps.{interval_of, metered_of, month_of, too_long};
 
 use crate::answer::number_of;
-use crate::copy::{StandsFor, copy_meant};
+use crate::copy::copy_from;
 use intervals::fill::fill;
 use intervals::interval::{Interval, Mark};
 use intervals::month::Month;
@@ -32,35 +32,26 @@ pub struct Span {
     pub total: u32,
 }
 
-impl StandsFor for Metered {
-    type Of = Interval;
+impl From<Metered> for Interval {
+    ghost from_gives = { λ metered interval. interval ≡ interval_of metered };
 
-    ghost stands = { interval_of };
-
-    fn meant(&self) -> Interval {
-        let mark = match self.mark {
-            0 => Mark::Valid,
-            1 => Mark::Missing,
-            _ => Mark::Filled,
-        };
+    fn from(metered: Metered) -> Interval {
         Interval {
-            wh: self.wh,
-            weight: self.weight,
-            mark,
+            wh: metered.wh,
+            weight: metered.weight,
+            mark: Mark::from(metered.mark),
         }
     }
 }
 
-impl StandsFor for Interval {
-    type Of = Metered;
+impl From<Interval> for Metered {
+    ghost from_gives = { λ interval metered. metered ≡ metered_of interval };
 
-    ghost stands = { metered_of };
-
-    fn meant(&self) -> Metered {
+    fn from(interval: Interval) -> Metered {
         Metered {
-            wh: self.wh,
-            weight: self.weight,
-            mark: self.mark.number() as u32,
+            wh: interval.wh,
+            weight: interval.weight,
+            mark: u8::from(interval.mark) as u32,
         }
     }
 }
@@ -105,9 +96,9 @@ fn fill_list(month: &Month, intervals: &mut [Metered]) -> Result<u64, u8>
     }
     let mut own = [BLANK; MOST_INTERVALS];
     let list = &mut own[..count];
-    copy_meant(intervals, list);
+    copy_from(intervals, list);
     let filled = fill(month, list)?;
-    copy_meant(list, intervals);
+    copy_from(list, intervals);
     Ok(filled as u64)
 }
 

@@ -1,4 +1,4 @@
 pub mod Pieces
 pub mod Named
-pub mod Decisions
 pub mod Texts
+pub mod Decisions

@@ -1,11 +1,11 @@
 -- What the decimal text of a number of 32 bits is like.
-use Rattle.std.proofs.Common.{◌≡◌, ℕ, ◌+◌, ◌*◌, ◌^◌, ◌<◌, ◌≤◌, true, ◌&&◌, ltb, List, ◌++◌, map, length, get_or, take, drop, Some, None, decimal, Option, sym, refl, ap, ◌∙◌, subst, ⊎_elim, arith}
+use Rattle.std.proofs.Common.{◌≡◌, ℕ, ◌^◌, ◌<◌, ◌≤◌, true, ◌&&◌, ltb, List, ◌++◌, map, length, get_or, take, drop, Some, None, decimal, Option, sym, refl, ap, ◌∙◌, subst, ⊎_elim, arith}
 use Rattle.std.specs.Str.Parse.{digits_value, AllDigits}
 use Rattle.std.specs.Int.{IsInRange}
 use Rattle.std.specs.Char.{digit_value}
 use Rattle.std.specs.Int.Digits.{number_from_digits}
 use Rattle.std.proofs.lemmas.List.{take-append-drop, map-append}
-use Rattle.std.proofs.lemmas.Int.Digits.{digits_value_is, number_after_append, number_after_ge, digits_value_more, digits_more}
+use Rattle.std.proofs.lemmas.Int.Digits.{digits_value_is, number_after_append, number_after_ge}
 use Rattle.std.proofs.lemmas.Str.Parse.{IsNumeralModel, numerals_by_value, tells_digits, digit_at}
 use Rattle.std.proofs.lemmas.Fmt.{decimal_nonempty, decimal_digit, decimal-digits_value, first_decimal, digits_decimal, digits_value-decimal}
 use Rattle.std.proofs.lemmas.Bool.{cases_eq, cond_both, lt-ltb, ltb-true, and_parts}
@@ -14,7 +14,7 @@ use Rattle.std.proofs.lemmas.Slice.Eq.{bytes_eq-Decides}
 use Rattle.std.specs.Str.{bytes_eq}
 use Rattle.fields.specs.Numbers.{number_of, Tells}
 use Rattle.fields.proofs.Pieces.{Free, free_by_index}
-use Rattle.fields.proofs.Decisions.{some_same, none_some}
+use Rattle.std.proofs.lemmas.Option.{same_Some, none-some}
 
 own : IsNumeralModel (AllDigits 10) (digits_value 10)
 own = numerals_by_value (AllDigits 10) tells_digits
@@ -44,18 +44,11 @@ module _ (bs : List ℕ) (n : ℕ) (small : n < 2 ^ 32) (e : bs ≡ decimal n) w
   pub digit_byte : (i : ℕ) → i < length bs → IsInRange 48 57 (get_or bs i 0)
   digit_byte i h = digit_at bs i all_digits h
 
+  pub digit_below : (i : ℕ) → i < length bs → digit_value (get_or bs i 0) < 10
+  digit_below i h = let d = digit_byte i h in omega (arith, digit_value_digit (get_or bs i 0) d, d.1)
+
   pub front_within : (k : ℕ) → digits_value 10 (take k bs) ≤ n
   front_within k = omega (arith, front_value bs k, ap (digits_value 10) e, digits_value-decimal own n (omega arith))
-
--- one digit more
-pub value_step : (bs : List ℕ) (i : ℕ) → i < length bs → IsInRange 48 57 (get_or bs i 0) → digits_value 10 (take (i + 1) bs) ≡ digits_value 10 (take i bs) * 10 + digit_value (get_or bs i 0)
-value_step bs i h d = digits_value_more 10 bs i h
-
-pub digit_is : (c : ℕ) → IsInRange 48 57 c → digit_value c + 48 ≡ c
-digit_is c d = digit_value_digit c d
-
-pub digits_step : (bs : List ℕ) (i : ℕ) → i < length bs → AllDigits 10 (take i bs) → IsInRange 48 57 (get_or bs i 0) → AllDigits 10 (take (i + 1) bs)
-digits_step bs i h ds d = digits_more 10 bs i h ds (omega (arith, digit_value_digit (get_or bs i 0) d, d.1))
 
 -- digits with no zero before others are the text of what they write
 pub text_of_value : (bs : List ℕ) → AllDigits 10 bs → 0 < length bs → (get_or bs 0 0 ≡ 48 → length bs ≡ 1) → digits_value 10 bs < 2 ^ 32 → bs ≡ decimal (digits_value 10 bs)
@@ -84,9 +77,9 @@ module _ (bs : List ℕ) where
       let v = digits_value 10 bs in
       let P : Option ℕ → Type 0 = λ o. Some n ≡ o → (bs ≡ decimal n) × (n < 2 ^ 32) in
       cond_both (ltb v (2 ^ 32) && bytes_eq bs (decimal v)) (Some v) None P
-      (λ t w. rw (some_same n v w) ((bytes_eq-Decides bs (decimal v)).0 (and_parts _ _ t).1, ltb-true v (2 ^ 32) (and_parts _ _ t).0))
-      (λ t w. absurd (none_some n (sym w))) e
-  tells None e = λ n small w. none_some n (e ∙ writes_value n small w)
+      (λ t w. rw (same_Some n v w) ((bytes_eq-Decides bs (decimal v)).0 (and_parts _ _ t).1, ltb-true v (2 ^ 32) (and_parts _ _ t).0))
+      (λ t w. absurd (none-some n (sym w))) e
+  tells None e = λ n small w. none-some n (e ∙ writes_value n small w)
 
 -- digits alone
 pub free_decimal : (d n : ℕ) → n < 2 ^ 32 → d < 48 → Free d (decimal n)

@@ -3,22 +3,15 @@
 --   joined_by c   pieces in a row, with the separator between each two
 --   first_piece   the first of some pieces and the others, where there are others
 --   Cut c bs r    r is the first piece and what is behind its separator; none where there is one piece alone
-use Rattle.std.specs.Prelude.{◌≡◌, ℕ, ◌+◌, cond, List, [], ◌∷◌, ◌++◌, length, drop, Some, None, Option, ◌==◌}
+use Rattle.std.specs.Prelude.{◌≡◌, ℕ, ◌+◌, List, [], ◌∷◌, length, drop, Some, None, Option, ◌==◌}
+use Rattle.std.specs.List.{slice_split, join_with_byte}
 use Rattle.std.specs.Borrow.{Bor}
 
--- a byte before the first piece
-abbrev pub onto_first : ℕ → List (List ℕ) → List (List ℕ)
-onto_first b [] = (b ∷ []) ∷ []
-onto_first b (p ∷ ps) = (b ∷ p) ∷ ps
-
 abbrev pub pieces : ℕ → List ℕ → List (List ℕ)
-pieces c [] = [] ∷ []
-pieces c (b ∷ bs) = cond (b == c) ([] ∷ pieces c bs) (onto_first b (pieces c bs))
+pieces c bs = slice_split (λ b. b == c) bs
 
 abbrev pub joined_by : ℕ → List (List ℕ) → List ℕ
-joined_by c [] = []
-joined_by c (p ∷ []) = p
-joined_by c (p ∷ q ∷ ps) = p ++ (c ∷ joined_by c (q ∷ ps))
+joined_by c ps = join_with_byte c ps
 
 -- the first piece and those behind it, where it is not alone
 abbrev pub first_piece : List (List ℕ) → Option (List ℕ × List (List ℕ))

@@ -1,7 +1,8 @@
 -- Rates as fields name them.
 --   rate_of bs    the rate whose name is bs
 --   Names bs r    r is the rate whose name is bs, and none where no rate has that name
-use Rattle.std.specs.Prelude.{◌≡◌, ℕ, cond, List, [], ◌∷◌, Some, None, Option, ◌≢◌}
+use Rattle.std.specs.Prelude.{◌≡◌, ℕ, List, [], ◌∷◌, Some, None, Option, ◌≢◌}
+use Rattle.std.specs.List.{find}
 use Rattle.std.specs.Str.{bytes_eq}
 use Rattle.measures.specs.declared.rate.Rate.{Rate}
 use Rattle.measures.specs.declared.rate.Rate.TheVariants.{E12, Et1, Et2, EtSp, Ect1R, Ect2, NrS, NrL, Other}
@@ -11,8 +12,7 @@ abbrev pub rates : List Rate
 rates = E12 ∷ Et1 ∷ Et2 ∷ EtSp ∷ Ect1R ∷ Ect2 ∷ NrS ∷ NrL ∷ Other ∷ []
 
 abbrev pub named_among : List Rate → List ℕ → Option Rate
-named_among [] bs = None
-named_among (r ∷ rs) bs = cond (bytes_eq bs (name_of r)) (Some r) (named_among rs bs)
+named_among rs bs = find (λ r. bytes_eq bs (name_of r)) rs
 
 abbrev pub rate_of : List ℕ → Option Rate
 rate_of bs = named_among rates bs

@@ -1,16 +1,21 @@
 // Bytes parted at a separator.
+ghost use Rattle.std.specs.Prelude.{◌≡◌, ◌==◌};
+ghost use Rattle.std.specs.List.{position};
 ghost use Rattle.fields.specs.Pieces.{Cut};
 
 // What stands before the first separator, and what behind it; none where there is no separator.
 pub fn cut<'a>(bytes: &'a [u8], separator: u8) -> Option<(&'a [u8], &'a [u8])>
     ensures { Cut separator bytes.now result }
 {
-    for i in 0..bytes.len() {
-        if bytes[i] == separator {
-            return Some((&bytes[..i], &bytes[i + 1..]));
-        }
-    }
-    None
+    let at = place_of(bytes, separator)?;
+    Some((&bytes[..at], &bytes[at + 1..]))
+}
+
+// Where the first separator stands.
+fn place_of(bytes: &[u8], separator: u8) -> Option<usize>
+    ensures { result ≡ position (λ b. b == separator) bytes.now }
+{
+    bytes.iter().position(|b| *b == separator)
 }
 
 #[cfg(test)]

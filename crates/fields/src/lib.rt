@@ -4,4 +4,3 @@
 pub mod cut;
 pub mod number;
 pub mod rate;
-pub mod same;

@@ -13,18 +13,16 @@ pub fn number_of(field: &[u8]) -> Option<u32>
 fn written(field: &[u8]) -> Option<u32>
     ensures { Tells field.now result }
 {
-    if field.len() == 0 {
+    if field.is_empty() {
         return None;
     }
     if field[0] == b'0' && field.len() > 1 {
         return None;
     }
     let mut number: u32 = 0;
-    for b in field {
-        if *b < b'0' || *b > b'9' {
-            return None;
-        }
-        number = number.checked_mul(10)?.checked_add((*b - b'0') as u32)?;
+    for byte in field {
+        let digit = char::from(*byte).to_digit(10)?;
+        number = number.checked_mul(10)?.checked_add(digit)?;
     }
     Some(number)
 }

@@ -2,7 +2,6 @@
 ghost use Rattle.std.specs.Prelude.{◌≡◌};
 ghost use Rattle.fields.specs.Rates.{rate_of, Names};
 
-use crate::same::is_text;
 use measures::rate::Rate;
 
 const RATES: [Rate; 9] = [
@@ -22,12 +21,16 @@ pub fn rate_of(field: &[u8]) -> Option<Rate>
     ensures answer { result ≡ rate_of field.now }
     ensures name { Names field.now result }
 {
-    for i in 0..9usize {
-        if is_text(field, RATES[i].name().as_bytes()) {
-            return Some(RATES[i]);
-        }
-    }
-    None
+    named(field)
+}
+
+fn named(field: &[u8]) -> Option<Rate>
+    ensures { result ≡ rate_of field.now }
+{
+    RATES
+        .iter()
+        .copied()
+        .find(|rate| field == rate.name().as_bytes())
 }
 
 #[cfg(test)]

@@ -1,41 +1,48 @@
-// Compares figures: runs every case of the data and holds what comes out to what is expected, byte for byte. It prints a
+// Compares figures: plays every sheet of the data and holds its listing to what is expected, byte for byte. It prints a
 // line for each case that differs, one for each group and one for all of them.
 #![tactic(auto)]
 
-mod played;
-mod tally;
-
 use anyhow::anyhow;
-use played::compare_sheets;
-use std::io;
-use tally::Tally;
+use comparing::{cases_of, compare_sheets};
+use tallies::report::{Group, end};
+use tallies::tally::Tally;
 
 // The groups of sheets.
 const SHEETS: [&str; 3] = ["forms", "histories", "damaged"];
 
-// The line of a group.
-fn tell(rt: &HostRuntime, group: &str, cases: &str, tally: Tally) -> io::Result<()> {
-    let compared = tally.compared;
-    let differing = tally.differing;
-    if tally.is_good() {
-        println!(rt; "{group}: {compared} {cases}, all as expected")
-    } else {
-        println!(rt; "{group}: {compared} {cases}, {differing} not as expected")
+// A group that cannot be read, or has no cases, is a case that differs.
+fn compare_group(rt: &HostRuntime, name: &str) -> anyhow::Result<Tally> {
+    match some_cases_of(rt, name) {
+        Ok(cases) => Ok(compare_sheets(rt, &cases)?),
+        Err(fault) => {
+            let mut tally = Tally::default();
+            tally.count(rt, name, Err(fault))?;
+            Ok(tally)
+        }
     }
 }
 
+fn some_cases_of(rt: &HostRuntime, name: &str) -> anyhow::Result<Vec<String>> {
+    let cases = cases_of(rt, name)?;
+    if cases.is_empty() {
+        return Err(anyhow!("there are no cases"));
+    }
+    Ok(cases)
+}
+
 fn run(rt: &HostRuntime) -> anyhow::Result<()> {
-    let mut all = Tally::new();
-    for group in SHEETS {
-        let tally = compare_sheets(rt, group)?;
-        tell(rt, group, "sheets", tally)?;
-        all.add(tally);
+    let mut all = Tally::default();
+    for name in SHEETS {
+        let tally = compare_group(rt, name)?;
+        let group = Group {
+            name,
+            cases: "sheets",
+            tally,
+        };
+        println!(rt; "{group}")?;
+        all += tally;
     }
-    tell(rt, "in all", "cases", all)?;
-    if !all.is_good() {
-        return Err(anyhow!("not all is as expected"));
-    }
-    Ok(())
+    end(rt, all)
 }
 
 fn main(rt: HostRuntime) -> anyhow::Result<()> {

@@ -15,16 +15,16 @@
 
 mod input;
 
-use input::{Fault, MOST_BYTES};
+use desk::fault::Fault;
+use input::{MOST_BYTES, Wrong};
 use intervals::fill::fill;
 use intervals::interval::Interval;
 use intervals::month::Month;
-use std::alloc::Global;
-use std::io::Read;
+use std::alloc::{AllocError, Global};
 use std::process::ExitCode;
 
 // What the program prints for the bytes of its input: the filled month, or N and the refusal's number.
-fn listing(heap: Global, bytes: &[u8]) -> Result<String, Fault> {
+fn listing(heap: Global, bytes: &[u8]) -> Result<String, Fault<Wrong>> {
     let mut job = input::read_job(heap, bytes)?;
     let month = Month {
         slots: job.slots,
@@ -35,49 +35,29 @@ fn listing(heap: Global, bytes: &[u8]) -> Result<String, Fault> {
         total: job.total,
     };
     match fill(&month, job.intervals.as_mut_slice()) {
-        Ok(filled) => written(heap, filled, job.intervals.as_slice()),
+        Ok(filled) => Ok(written(heap, filled, job.intervals.as_slice())?),
         Err(number) => Ok(format!(in heap; "N {number}\n")?),
     }
 }
 
 // The number of filled intervals, and each interval as the input has it.
-fn written(heap: Global, filled: u32, intervals: &[Interval]) -> Result<String, Fault> {
+fn written(heap: Global, filled: u32, intervals: &[Interval]) -> Result<String, AllocError> {
     let mut text = format!(in heap; "{filled}\n")?;
     for interval in intervals {
-        let wh = interval.wh;
-        let weight = interval.weight;
-        let mark = interval.mark.number();
-        text.push_str(format!(in heap; "{wh} {weight} {mark}\n")?.as_str())?;
+        let Interval { wh, weight, mark } = *interval;
+        let mark = u8::from(mark);
+        writeln!(text, "{wh} {weight} {mark}")?;
     }
     Ok(text)
 }
 
-// Prints all of the listing or, where something is wrong, none of it.
-fn run(rt: &HostRuntime) -> anyhow::Result<()> {
-    let mut bytes = Vec::new(rt.alloc());
-    rt.stdin()
-        .take(MOST_BYTES as u64 + 1)
-        .read_to_end(&mut bytes)?;
-    let text = listing(rt.alloc(), bytes.as_slice())?;
-    print!(rt; "{text}")?;
-    Ok(())
-}
-
-// What is wrong is one line on standard error; where that cannot be written, the status alone tells of it.
 fn main(rt: HostRuntime) -> ExitCode {
-    match run(&rt) {
-        Ok(()) => ExitCode::SUCCESS,
-        Err(e) => {
-            let _ = eprintln!(rt; "{e}");
-            ExitCode::FAILURE
-        }
-    }
+    desk::program::run(&rt, MOST_BYTES, |bytes| listing(rt.alloc(), bytes))
 }
 
 #[cfg(test)]
 mod tests {
     use super::*;
-    use crate::input::Wrong;
     use std::process::Abort;
     use std::test::*;
 

@@ -1,24 +1,25 @@
 -- What the sharing leaves, said of the intervals.
 use Rattle.std.proofs.Common.{◌≡◌, ℕ, zero, suc, ◌+◌, ◌-◌, ◌<◌, ◌≤◌, Bool, true, false, cond, not, ◌&&◌, List, [], ◌∷◌, length, get_or, Ok, sym, refl, ap, ◌∙◌, le_of_suc-le-suc, not-suc-le-zero, add-zero, zero-add, arith}
 use Rattle.std.proofs.lemmas.Bool.{and_parts, and_from}
+use Rattle.std.specs.List.{list_all}
 use Rattle.sharing.specs.Sharing.{sum_of, running, shared_from, shared, light, verdict, SharedOut}
 use Rattle.sharing.proofs.Shares.{verdict_ok, shared_place}
 use Rattle.intervals.specs.declared.interval.Interval.{Interval}
 use Rattle.intervals.specs.declared.month.Month.{Month}
-use Rattle.intervals.specs.Intervals.{valid, missing, lacking, wh_of, weight_of, weighed_by, with_share, every, readable, reference, weighed_from, weighed, weights_in, valid_wh, missing_in, filled, FilledUp}
+use Rattle.intervals.specs.Intervals.{valid, missing, lacking, wh_of, weight_of, weighed_by, with_share, readable, reference, weighed_from, weighed, weights_in, valid_wh, missing_in, filled, FilledUp}
 use Rattle.intervals.proofs.Marks.{shared_at, lacking_missing, weighed_readable, weighed_valid, shared_valid, weighed_light, valid_kept, missing_marked, missing_weighed}
 use Rattle.intervals.proofs.Known.{Known, Left}
 
 -- over a list, weighing changes neither who is readable nor the Wh of the valid
-readable_weighed : (m : Month) (xs : List Interval) (i : ℕ) → every readable (weighed_from m i xs) ≡ every readable xs
+readable_weighed : (m : Month) (xs : List Interval) (i : ℕ) → list_all readable (weighed_from m i xs) ≡ list_all readable xs
 readable_weighed m [] i = refl
 readable_weighed m (x ∷ xs) i =
-    ap (λ b. b && every readable (weighed_from m (i + 1) xs)) (weighed_readable (reference m i) x) ∙ ap (λ b. readable x && b) (readable_weighed m xs (i + 1))
+    ap (λ b. b && list_all readable (weighed_from m (i + 1) xs)) (weighed_readable (reference m i) x) ∙ ap (λ b. readable x && b) (readable_weighed m xs (i + 1))
 
-light_weighed : (m : Month) → ((k : ℕ) → reference m k ≤ 1000000) → (xs : List Interval) (i : ℕ) → every readable xs ≡ true → light lacking weight_of (weighed_from m i xs) ≡ true
+light_weighed : (m : Month) → ((k : ℕ) → reference m k ≤ 1000000) → (xs : List Interval) (i : ℕ) → list_all readable xs ≡ true → light lacking weight_of (weighed_from m i xs) ≡ true
 light_weighed m h [] i q = refl
 light_weighed m h (x ∷ xs) i q =
-    let b = and_parts (readable x) (every readable xs) q in
+    let b = and_parts (readable x) (list_all readable xs) q in
     and_from _ _ (weighed_light (reference m i) (h i) x b.0) (light_weighed m h xs (i + 1) b.1)
 
 valid_weighed : (m : Month) (xs : List Interval) (i : ℕ) → valid_wh (weighed_from m i xs) ≡ valid_wh xs
@@ -41,10 +42,10 @@ weighed_place m (x ∷ xs) i (suc k) d h =
     let e : i + suc k ≡ i + 1 + k = omega arith in rw e (weighed_place m xs (i + 1) k d (le_of_suc-le-suc h))
 
 -- a figure over a readable list, of those that lack their Wh or are missing
-lacking_sum : (figure : Interval → ℕ) (xs : List Interval) → every readable xs ≡ true → sum_of lacking figure xs ≡ sum_of missing figure xs
+lacking_sum : (figure : Interval → ℕ) (xs : List Interval) → list_all readable xs ≡ true → sum_of lacking figure xs ≡ sum_of missing figure xs
 lacking_sum figure [] q = refl
 lacking_sum figure (x ∷ xs) q =
-    let b = and_parts (readable x) (every readable xs) q in
+    let b = and_parts (readable x) (list_all readable xs) q in
     omega (arith, ap (λ p. cond p (figure x) 0) (lacking_missing x b.0), lacking_sum figure xs b.1)
 
 -- a figure of all, of those that pass a test and of the others
@@ -61,7 +62,7 @@ module _ (m : Month) (xs ws : List Interval) (left : ℕ) (known : Known m xs) (
   -- the sharing does not refuse
   pub accepted : Ok tt ≡ verdict lacking weight_of left ws
   accepted =
-      let q : every readable (weighed m xs) ≡ true = readable_weighed m xs 0 ∙ known.all_readable in
+      let q : list_all readable (weighed m xs) ≡ true = readable_weighed m xs 0 ∙ known.all_readable in
       rw weighs (verdict_ok lacking weight_of left (weighed m xs)
       (omega (arith, rest.is, known.total_within))
       (omega (arith, length_weighed m xs 0, known.usable.few))

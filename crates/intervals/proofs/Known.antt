@@ -3,9 +3,10 @@ use Rattle.std.proofs.Common.{◌≡◌, ℕ, zero, suc, ◌+◌, ◌-◌, ◌/�
 use Rattle.std.proofs.lemmas.Bool.{leb-true, and_parts, cond_both}
 use Rattle.std.proofs.lemmas.Bool.Decides.{nat_tests}
 use Rattle.std.proofs.lemmas.Nat.{mul-le, div-add-mod'}
+use Rattle.std.specs.List.{list_all}
 use Rattle.intervals.specs.declared.interval.Interval.{Interval}
 use Rattle.intervals.specs.declared.month.Month.{Month}
-use Rattle.intervals.specs.Intervals.{every, readable, day_off, reference, missing_in, valid_wh, weights_in, checked, left_over, then, answer, Usable}
+use Rattle.intervals.specs.Intervals.{readable, day_off, reference, missing_in, valid_wh, weights_in, checked, left_over, then, answer, Usable}
 
 -- at most 35 days of at most 96 slots
 pub few_intervals : (s n : ℕ) → (s ≡ 24) ⊎ (s ≡ 96) → n % s ≡ 0 → n / s ≤ 35 → n ≤ 3360
@@ -16,15 +17,15 @@ few_intervals s n e none d =
 some_slots : (s : ℕ) → (s ≡ 24) ⊎ (s ≡ 96) → 0 < s
 some_slots s e = ⊎_elim (λ q. omega arith) (λ q. omega arith) e
 
-within_at : (vs : List ℕ) (j : ℕ) → every (λ v. leb v 1000000) vs ≡ true → get_or vs j 0 ≤ 1000000
+within_at : (vs : List ℕ) (j : ℕ) → list_all (λ v. leb v 1000000) vs ≡ true → get_or vs j 0 ≤ 1000000
 within_at [] j h = omega arith
-within_at (v ∷ vs) zero h = leb-true v 1000000 (and_parts (leb v 1000000) (every (λ v. leb v 1000000) vs) h).0
-within_at (v ∷ vs) (suc j) h = within_at vs j (and_parts (leb v 1000000) (every (λ v. leb v 1000000) vs) h).1
+within_at (v ∷ vs) zero h = leb-true v 1000000 (and_parts (leb v 1000000) (list_all (λ v. leb v 1000000) vs) h).0
+within_at (v ∷ vs) (suc j) h = within_at vs j (and_parts (leb v 1000000) (list_all (λ v. leb v 1000000) vs) h).1
 
 pub record Known (m : Month) (xs : List Interval) : Type 0 where
   pub usable : Usable m (length xs)
   pub light : (i : ℕ) → reference m i ≤ 1000000
-  pub all_readable : every readable xs ≡ true
+  pub all_readable : list_all readable xs ≡ true
   pub total_within : m.total ≤ 1000000000
 
 pub known : (m : Month) (xs : List Interval) → checked m xs ≡ Ok tt → Known m xs
@@ -34,8 +35,8 @@ known m xs h =
     let slots : (s ≡ 24) ⊎ (s ≡ 96) = grind (arith, nat_tests) in
     let none_over : n % s ≡ 0 = grind (arith, nat_tests) in
     let most : n / s ≤ 35 = grind (arith, nat_tests) in
-    let a : every (λ v. leb v 1000000) m.weekday.now ≡ true = grind (arith, nat_tests) in
-    let b : every (λ v. leb v 1000000) m.weekend.now ≡ true = grind (arith, nat_tests) in
+    let a : list_all (λ v. leb v 1000000) m.weekday.now ≡ true = grind (arith, nat_tests) in
+    let b : list_all (λ v. leb v 1000000) m.weekend.now ≡ true = grind (arith, nat_tests) in
     record {
       usable = record {
         few = few_intervals s n slots none_over most;

@@ -1,5 +1,4 @@
 pub mod Marks
-pub mod Steps
-pub mod Weights
 pub mod Known
 pub mod Filling
+pub mod Sums

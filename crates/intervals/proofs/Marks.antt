@@ -33,10 +33,6 @@ lacking_missing = by_mark (λ x. readable x ≡ true → lacking x ≡ missing x
 abbrev pub shared_at : ℕ → Interval → Interval
 shared_at s x = cond (lacking x) (with_share x s) x
 
--- the weight of a missing interval is the one that it takes
-pub missing_weight : (r : ℕ) (x : Interval) → cond (missing (weighed_by r x)) (weight_of (weighed_by r x)) 0 ≡ cond (missing x) r 0
-missing_weight r = by_mark (λ x. cond (missing (weighed_by r x)) (weight_of (weighed_by r x)) 0 ≡ cond (missing x) r 0) (λ w g. refl) (λ w g. refl) (λ w g. refl)
-
 -- weighing changes neither whether an interval is readable nor the Wh of a valid one, and sharing not the latter
 pub weighed_readable : (r : ℕ) (x : Interval) → readable (weighed_by r x) ≡ readable x
 weighed_readable r = by_mark (λ x. readable (weighed_by r x) ≡ readable x) (λ w g. refl) (λ w g. refl) (λ w g. refl)

@@ -1,6 +1,7 @@
 -- The missing intervals of a month, filled so that the month comes to its register total. Intervals stand in order of
 -- time: interval i is slot i % slots of day first day + i / slots.
 --   mark_number k        the number that stands for the mark k
+--   mark_of n            the mark that the number n stands for
 --   valid x, missing x   told by the mark; lacking x: not valid
 --   wh_in, valid_wh      the Wh of all intervals of a list, and of the valid ones
 --   missing_in xs        how many intervals are missing
@@ -16,6 +17,7 @@
 --   FilledUp m n xs ys   what holds of the intervals before and after
 --   Usable m n           what a list of n intervals needs, or a place n
 use Rattle.std.specs.Prelude.{◌≡◌, ℕ, ◌+◌, ◌-◌, ◌/◌, ◌%◌, ◌<◌, ◌≤◌, Bool, true, false, cond, not, ◌&&◌, ◌||◌, List, [], ◌∷◌, length, get_or, Ok, Err, Result, ◌==◌, nat_le, nat_lt, slice_index, slice_index_or}
+use Rattle.std.specs.List.{list_all}
 use Rattle.calendar.specs.Calendar.{last_day, weekend as weekend_day}
 use Rattle.measures.specs.Refusals.{bad_slots, not_whole_days, bad_reference, bad_holidays, bad_readings, none_missing, over_total, no_weight}
 use Rattle.sharing.specs.Sharing.{sum_of, shared}
@@ -28,6 +30,10 @@ abbrev pub mark_number : Mark → ℕ
 mark_number Valid = 0
 mark_number Missing = 1
 mark_number Filled = 2
+
+-- 0 stands for valid and 1 for missing; on the way in any other number stands for filled
+abbrev pub mark_of : ℕ → Mark
+mark_of n = cond (n == 0) Valid (cond (n == 1) Missing Filled)
 
 abbrev pub valid : Interval → Bool
 valid x = mark_number x.mark == 0
@@ -98,16 +104,12 @@ weights_in m xs = weights_from m 0 xs
 abbrev pub filled : Month → List Interval → List Interval
 filled m xs = shared lacking weight_of with_share (m.total - valid_wh xs) (weighed m xs)
 
-abbrev pub every : {X : Type 0} → (X → Bool) → List X → Bool
-every good [] = true
-every good (x ∷ xs) = good x && every good xs
-
 -- n intervals are 1 to 35 whole days, the last of them on the calendar
 abbrev pub whole_days : ℕ → ℕ → ℕ → Bool
 whole_days slots first n = n % slots == 0 && (nat_le 1 (n / slots) && (nat_le (n / slots) 35 && nat_le (first + n / slots - 1) last_day))
 
 abbrev pub fits_day : ℕ → List ℕ → Bool
-fits_day slots vs = length vs == slots && every (λ v. nat_le v 1000000) vs
+fits_day slots vs = length vs == slots && list_all (λ v. nat_le v 1000000) vs
 
 -- days that rise strictly, the first of them not before d
 abbrev pub rising_from : ℕ → List ℕ → Bool
@@ -124,7 +126,7 @@ checked m xs =
     (cond (not (whole_days m.slots m.first_day (length xs))) (Err not_whole_days)
     (cond (not (fits_day m.slots m.weekday.now && fits_day m.slots m.weekend.now)) (Err bad_reference)
     (cond (not (rising_from 0 m.holidays.now)) (Err bad_holidays)
-    (cond (not (every readable xs && nat_le m.total 1000000000)) (Err bad_readings)
+    (cond (not (list_all readable xs && nat_le m.total 1000000000)) (Err bad_readings)
     (Ok tt)))))
 
 -- from the total, the number of gaps, the metered Wh and the weights of the gaps

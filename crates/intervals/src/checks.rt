@@ -1,6 +1,7 @@
 // The refusals of what was handed in, before anything is counted.
 ghost use Rattle.std.specs.Prelude.{◌≡◌, ◌<◌, nat_le};
-ghost use Rattle.intervals.specs.Intervals.{whole_days, every, fits_day, rising_from, readable, checked};
+ghost use Rattle.std.specs.List.{list_all};
+ghost use Rattle.intervals.specs.Intervals.{whole_days, fits_day, rising_from, readable, checked};
 
 use crate::interval::{Interval, MOST_WH};
 use crate::month::{MOST_DAYS, Month};
@@ -51,14 +52,9 @@ fn fits_day(slots: u32, values: &[u32]) -> bool
 
 // Whether no value is too high.
 fn are_within(values: &[u32]) -> bool
-    ensures { result ≡ every (λ v. nat_le v 1000000) values.now }
+    ensures { result ≡ list_all (λ v. nat_le v 1000000) values.now }
 {
-    for value in values {
-        if !is_within(*value) {
-            return false;
-        }
-    }
-    true
+    values.iter().all(|wh| is_within(*wh))
 }
 
 fn is_within(wh: u32) -> bool
@@ -83,14 +79,9 @@ fn are_rising(days: &[u32]) -> bool
 
 // Whether each interval is valid, and its Wh are not too high, or missing.
 fn are_readable(intervals: &[Interval]) -> bool
-    ensures { result ≡ every readable intervals.now }
+    ensures { result ≡ list_all readable intervals.now }
 {
-    for interval in intervals {
-        if !is_readable(interval) {
-            return false;
-        }
-    }
-    true
+    intervals.iter().all(is_readable)
 }
 
 fn is_readable(interval: &Interval) -> bool

@@ -1,6 +1,6 @@
 // The missing intervals of a month filled from what the valid ones leave of the register total.
-ghost use Rattle.std.specs.Prelude.{◌≡◌, ◌≤◌, length, is_ok, IfOk, if◌then◌else◌};
-ghost use Rattle.intervals.specs.Intervals.{valid, missing, weighed_by, reference, missing_in, valid_wh, weights_in, weighed, filled, left_over, answer, FilledUp, Usable};
+ghost use Rattle.std.specs.Prelude.{◌≡◌, ◌≤◌, length, is_ok, IfOk, if◌then◌else◌, MatchResult, Ok, Err};
+ghost use Rattle.intervals.specs.Intervals.{valid, missing, weighed_by, reference, missing_in, valid_wh, weights_in, weighed, filled, left_over, answer, FilledUp, Usable, checked};
 
 use crate::checks::check;
 use crate::interval::Interval;
@@ -8,17 +8,62 @@ use crate::month::Month;
 use measures::refusal;
 use sharing::share::share_out;
 
+// A month and its intervals, once nothing in them was refused.
+#[derive(Clone, Copy)]
+struct Checked<'m, 'a> {
+    month: Month<'m>,
+    intervals: &'a [Interval],
+    ghost usable: { Usable month (length intervals.now) },
+}
+
+impl Checked<'_, '_> {
+    fn new<'m, 'a>(month: &Month<'m>, intervals: &'a [Interval]) -> Result<Checked<'m, 'a>, u8>
+        ensures { MatchResult result (λ c. (c.month ≡ month.now) × (c.intervals.now ≡ intervals.now) × (checked month.now intervals.now ≡ Ok tt)) (λ e. checked month.now intervals.now ≡ Err e) }
+    {
+        check(month, intervals)?;
+        Ok(Checked {
+            month: *month,
+            intervals,
+        })
+    }
+
+    // How many intervals are missing.
+    fn count_missing(&self) -> u32
+        ensures { result ≡ missing_in self.now.intervals.now }
+    {
+        self.intervals.iter().filter(|x| x.is_missing()).count() as u32
+    }
+
+    // The Wh of the valid intervals.
+    fn sum_valid(&self) -> u64
+        ensures { result ≡ valid_wh self.now.intervals.now }
+    {
+        self.intervals.iter().map(|x| if_valid(x) as u64).sum()
+    }
+
+    // The references of the missing intervals together.
+    fn sum_weights(&self) -> u64
+        ensures { result ≡ weights_in self.now.month self.now.intervals.now }
+    {
+        let mut sum: u64 = 0;
+        for (place, interval) in self.intervals.iter().enumerate() {
+            if interval.is_missing() {
+                sum += self.month.reference(place) as u64;
+            }
+        }
+        sum
+    }
+}
+
 // Fills the missing intervals by the references, and answers how many; a refusal leaves every interval as it was.
 pub fn fill(month: &Month, intervals: &mut [Interval]) -> Result<u32, u8>
     ensures answer { result ≡ answer month.now intervals.old }
     ensures after { intervals.new ≡ (if is_ok result then filled month.now intervals.old else intervals.old) }
     ensures promise { IfOk result (λ n. FilledUp month.now n intervals.old intervals.new) }
 {
-    check(month, intervals)?;
-    let missing = count_missing(intervals);
-    let valid = sum_valid(intervals);
-    let weights = sum_weights(month, intervals);
-    let left = left_over(month.total, missing, valid, weights)?;
+    let known = Checked::new(month, intervals)?;
+    let missing = known.count_missing();
+    let left = left_over(month.total, missing, known.sum_valid(), known.sum_weights())?;
     weigh(month, intervals);
     let Ok(()) = share_out(left, intervals) else {
         unreachable()
@@ -43,59 +88,11 @@ fn left_over(total: u32, gaps: u32, metered: u64, weights: u64) -> Result<u32, u
     Ok(left as u32)
 }
 
-// How many intervals are missing.
-fn count_missing(intervals: &[Interval]) -> u32
-    requires { length intervals.now ≤ 3360 }
-    ensures { result ≡ missing_in intervals.now }
-{
-    let mut count: u32 = 0;
-    for interval in intervals {
-        count += interval.is_missing() as u32;
-    }
-    count
-}
-
-// The Wh of the valid intervals.
-fn sum_valid(intervals: &[Interval]) -> u64
-    requires { length intervals.now ≤ 3360 }
-    ensures { result ≡ valid_wh intervals.now }
-{
-    let mut sum: u64 = 0;
-    for interval in intervals {
-        sum += if_valid(interval) as u64;
-    }
-    sum
-}
-
 // The Wh of an interval if it is valid.
 fn if_valid(interval: &Interval) -> u32
     ensures { result ≡ (if valid interval.now then interval.now.wh else 0) }
 {
     if interval.is_valid() { interval.wh } else { 0 }
-}
-
-// The references of the missing intervals together.
-fn sum_weights(month: &Month, intervals: &[Interval]) -> u64
-    requires { Usable month.now (length intervals.now) }
-    ensures { result ≡ weights_in month.now intervals.now }
-{
-    let mut sum: u64 = 0;
-    for (place, interval) in intervals.iter().enumerate() {
-        sum += if_missing(month, place, interval) as u64;
-    }
-    sum
-}
-
-// The reference of the interval at a place if it is missing.
-fn if_missing(month: &Month, place: usize, interval: &Interval) -> u32
-    requires { Usable month.now place }
-    ensures { result ≡ (if missing interval.now then reference month.now place else 0) }
-{
-    if interval.is_missing() {
-        month.reference(place)
-    } else {
-        0
-    }
 }
 
 // Gives each missing interval its reference as weight.
@@ -104,17 +101,9 @@ fn weigh(month: &Month, intervals: &mut [Interval])
     ensures { intervals.new ≡ weighed month.now intervals.old }
 {
     for (place, interval) in intervals.iter_mut().enumerate() {
-        weigh_one(month, place, interval);
-    }
-}
-
-// Gives the interval at a place its reference as weight, if it is missing.
-fn weigh_one(month: &Month, place: usize, interval: &mut Interval)
-    requires { Usable month.now place }
-    ensures { interval.new ≡ weighed_by (reference month.now place) interval.old }
-{
-    if interval.is_missing() {
-        interval.weight = month.reference(place);
+        if interval.is_missing() {
+            interval.weight = month.reference(place);
+        }
     }
 }
 

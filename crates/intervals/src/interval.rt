@@ -1,6 +1,6 @@
 // One interval of the meter: its Wh, the weight that it was filled by, and its mark.
 ghost use Rattle.std.specs.Prelude.{◌≡◌};
-ghost use Rattle.intervals.specs.Intervals.{mark_number, valid, missing, lacking, with_share, weight_of, wh_of};
+ghost use Rattle.intervals.specs.Intervals.{mark_number, mark_of, valid, missing, lacking, with_share, weight_of, wh_of};
 ghost use Rattle.std.proofs.Common.{rules};
 
 use sharing::record::Shares;
@@ -16,15 +16,28 @@ pub enum Mark {
     Filled,
 }
 
-impl Mark {
-    // The number that stands for the mark, from 0 to 2.
-    pub fn number(self) -> u8
-        ensures answer { result ≡ mark_number self }
-    {
-        match self {
+// The number that stands for a mark, from 0 to 2.
+impl From<Mark> for u8 {
+    ghost from_gives = { λ mark r. r ≡ mark_number mark };
+
+    fn from(mark: Mark) -> u8 {
+        match mark {
             Mark::Valid => 0,
             Mark::Missing => 1,
             Mark::Filled => 2,
+        }
+    }
+}
+
+// The mark that a number stands for: 0, 1, and any other for a filled interval.
+impl From<u32> for Mark {
+    ghost from_gives = { λ number r. r ≡ mark_of number };
+
+    fn from(number: u32) -> Mark {
+        match number {
+            0 => Mark::Valid,
+            1 => Mark::Missing,
+            _ => Mark::Filled,
         }
     }
 }
@@ -40,19 +53,13 @@ impl Interval {
     pub fn is_valid(&self) -> bool
         ensures answer { result ≡ valid self.now }
     {
-        match self.mark {
-            Mark::Valid => true,
-            Mark::Missing | Mark::Filled => false,
-        }
+        self.mark == Mark::Valid
     }
 
     pub fn is_missing(&self) -> bool
         ensures answer { result ≡ missing self.now }
     {
-        match self.mark {
-            Mark::Missing => true,
-            Mark::Valid | Mark::Filled => false,
-        }
+        self.mark == Mark::Missing
     }
 }
 
@@ -94,8 +101,12 @@ mod tests {
 
     #[test]
     fn numbers(rt: HostRuntime) {
-        assert_eq!(rt; Mark::Valid.number(), 0);
-        assert_eq!(rt; Mark::Missing.number(), 1);
-        assert_eq!(rt; Mark::Filled.number(), 2);
+        assert_eq!(rt; u8::from(Mark::Valid), 0);
+        assert_eq!(rt; u8::from(Mark::Missing), 1);
+        assert_eq!(rt; u8::from(Mark::Filled), 2);
+        assert_eq!(rt; Mark::from(0), Mark::Valid);
+        assert_eq!(rt; Mark::from(1), Mark::Missing);
+        assert_eq!(rt; Mark::from(2), Mark::Filled);
+        assert_eq!(rt; Mark::from(4_294_967_295), Mark::Filled);
     }
 }

@@ -18,15 +18,13 @@ use Rattle.measures.specs.Rate.{class_kwh}
 use Rattle.estimating.specs.declared.basis.Question.{Question}
 use Rattle.estimating.specs.declared.basis.Basis.{Basis}
 use Rattle.lookup.specs.declared.fit.Whose.{Whose}
-use Rattle.lookup.specs.declared.fit.Whose.TheVariants.{Customer, Anyone}
 use Rattle.lookup.specs.declared.six.Six.{Six}
-use Rattle.lookup.specs.Tests.{asked, OfWhose, available, a_year_back, in_the_season}
+use Rattle.lookup.specs.Tests.{pick, asked, OfWhose, available, a_year_back, in_the_season}
 use Rattle.lookup.specs.Latest.{latest, Latest, newest, Newest}
 use Rattle.lookup.specs.Six.{six_latest}
 
 abbrev pub rung_for : ℕ → Whose → ℕ
-rung_for n Customer = n
-rung_for n Anyone = n + 3
+rung_for n w = pick w n (n + 3)
 
 pub record IsAvailable (e : Entry) : Type 0 where
   pub some_days : 1 ≤ e.usage_days

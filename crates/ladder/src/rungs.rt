@@ -1,6 +1,6 @@
 // The rungs of the ladder, each a method of its own.
 ghost use Rattle.std.specs.Prelude.{◌≡◌, ◌≤◌};
-ghost use Rattle.ladder.specs.Rungs.{rung_for, basis_of, last_entry, OnLastEntry, from_year_back, OnYearBack, seasonal, OnSeasonal, class_figure};
+ghost use Rattle.ladder.specs.Rungs.{basis_of, last_entry, OnLastEntry, from_year_back, OnYearBack, seasonal, OnSeasonal, class_figure};
 ghost use Rattle.ladder.specs.Meanings.{last_entry_lawful, year_back_lawful, seasonal_lawful};
 ghost use Rattle.std.proofs.Common.{rules};
 
@@ -38,17 +38,6 @@ pub struct Seasonal {
 #[derive(Clone, Copy)]
 pub struct ClassFigure;
 
-// The number of a rung.
-fn rung_for(own: u8, whose: Whose) -> u8
-    requires { own ≤ 3 }
-    ensures { result ≡ rung_for own whose }
-{
-    match whose {
-        Whose::Customer => own,
-        Whose::Anyone => own + 3,
-    }
-}
-
 // The basis that an entry gives on a rung.
 fn basis_of(rung: u8, found: &Entry) -> Basis
     ensures { result ≡ basis_of rung found.now }
@@ -69,7 +58,7 @@ fn by_last_entry(whose: Whose, book: &[Entry], question: &Question) -> Option<Ba
         customer: question.customer,
     };
     if of_customer.fit(last) && Available.fit(last) && !last.initial {
-        return Some(basis_of(rung_for(1, whose), last));
+        return Some(basis_of(whose.pick(1, 4), last));
     }
     None
 }
@@ -77,9 +66,13 @@ fn by_last_entry(whose: Whose, book: &[Entry], question: &Question) -> Option<Ba
 fn by_year_back(whose: Whose, book: &[Entry], question: &Question) -> Option<Basis>
     ensures { result ≡ from_year_back whose book.now question.now }
 {
-    let found = latest::year_back(book, whose, question.customer, question.end_day as u32)?;
+    let of_customer = OfCustomer {
+        whose,
+        customer: question.customer,
+    };
+    let found = latest::year_back(book, of_customer, question.end_day as u32)?;
     if Available.fit(found) {
-        return Some(basis_of(rung_for(2, whose), found));
+        return Some(basis_of(whose.pick(2, 5), found));
     }
     None
 }
@@ -88,10 +81,14 @@ fn by_season(whose: Whose, book: &[Entry], question: &Question) -> Option<Basis>
     ensures { result ≡ seasonal whose book.now question.now }
 {
     let season = calendar::season_of(question.end_day as u32)?;
-    let six = six::seasonal_sum(book, whose, question.customer, season);
+    let of_customer = OfCustomer {
+        whose,
+        customer: question.customer,
+    };
+    let six = six::seasonal_sum(book, of_customer, season);
     if six.count == SIX && six.usage_days >= FEWEST_DAYS && six.usage_days <= MOST_DAYS {
         return Some(Basis {
-            rung: rung_for(3, whose),
+            rung: whose.pick(3, 6),
             kwh: six.kwh as u32,
             days: six.usage_days as u16,
         });

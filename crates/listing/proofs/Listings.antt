@@ -1,24 +1,22 @@
 -- A whole listing, from the texts that it is made of.
-use Rattle.std.proofs.Common.{◌≡◌, ℕ, ◌+◌, ◌≤◌, false, ◌||◌, ltb, List, ◌++◌, length, drop, Ok, sym, ap, ◌∙◌, arith}
-use Rattle.std.proofs.lemmas.Bool.{cond-false, le-ltb}
-use Rattle.measures.specs.declared.entry.Entry.{Entry}
-use Rattle.premise.specs.declared.happening.Happening.{Happening}
-use Rattle.listing.specs.Listing.{listing, listed, in_front}
-use Rattle.listing.specs.Put.{Put}
-use Rattle.listing.proofs.Puts.{put_then}
+use Rattle.std.proofs.Common.{◌≡◌, ℕ, ◌+◌, ◌≤◌, List, [], ◌∷◌, ◌++◌, length, take, drop, ◌∙◌, arith}
+use Rattle.sheets.specs.declared.notice.Notice.{Notice}
+use Rattle.listing.specs.Refused.{section_letter, notice_line}
+use Rattle.listing.specs.Listing.{fields, in_front}
+use Rattle.listing.specs.declared.page.Page.{Page}
+use Rattle.listing.specs.Put.{Wrote}
+use Rattle.listing.proofs.Puts.{wrote_then}
 
--- four texts after one another from the front on
-pub put_four : (s t u v a b c d e : List ℕ) (k l m n : ℕ) → k ≤ length b → l ≤ length c → Put 0 s a k b → Put k t b l c → Put l u c m d → Put m v d n e → Put 0 (s ++ (t ++ (u ++ v))) a n e
-put_four s t u v a b c d e k l m n h i p q r o =
-    put_then 0 s (t ++ (u ++ v)) a b e k n (omega arith) p
-    (put_then k t (u ++ v) b c e l n h q
-    (put_then l u v c d e m n i r o))
+-- four texts after one another
+pub wrote_four : {a : Page} (s t u v : List ℕ) (b c d e : Page) → Wrote s a b → Wrote t b c → Wrote u c d → Wrote v d e → a.end ≤ length a.buffer.now → b.end ≤ length b.buffer.now → c.end ≤ length c.buffer.now → Wrote (s ++ (t ++ (u ++ v))) a e
+wrote_four {a} s t u v b c d e p q r o g h i = wrote_then s (t ++ (u ++ v)) b e p (wrote_then t (u ++ v) c e q (wrote_then u v d e r o i) h) g
 
-pub put_in_front : (t b c : List ℕ) (r : ℕ) → Put 0 t b r c → c ≡ in_front t b
-put_in_front t b c r p = let z : 0 + length t ≡ length t = omega arith in p.bytes ∙ ap (λ k. t ++ drop k b) z
+-- a text from the front on, and the bytes x that are the page's
+pub wrote_in_front : {p : Page} {x : List ℕ} (t : List ℕ) (q : Page) → Wrote t p q → p.end ≡ 0 → x ≡ q.buffer.now → x ≡ in_front t p.buffer.now
+wrote_in_front {p} t q w z e =
+    let k : p.end + length t ≡ length t = omega (arith, z) in
+    e ∙ w.put.bytes ∙ (λ i. take (z i) p.buffer.now ++ (t ++ drop (k i) p.buffer.now))
 
-pub listed_is : (hs : List Happening) (es : List Entry) (n r : ℕ) → 16384 ≤ n → length hs ≤ 240 → length es ≤ 240 → r ≡ length (listing hs es) → Ok r ≡ listed hs es n
-listed_is hs es n r room few-answers few-entries is =
-    let none : (ltb n 16384 || (ltb 240 (length hs) || ltb 240 (length es))) ≡ false
-    = (λ i. le-ltb n 16384 room i || (le-ltb 240 (length hs) few-answers i || le-ltb 240 (length es) few-entries i)) in
-    ap Ok is ∙ sym (cond-false _ _ _ none)
+-- the line of a refused sheet
+pub notice_is : (n : Notice) (letter number : ℕ) → (letter ∷ []) ≡ section_letter n.section → number ≡ n.number → 88 ∷ 32 ∷ letter ∷ fields (n.line ∷ n.field ∷ number ∷ []) ≡ notice_line n
+notice_is n letter number l k = λ i. 88 ∷ 32 ∷ (l i ++ fields (n.line ∷ n.field ∷ k i ∷ []))

@@ -1,10 +1,9 @@
 // The lines of a listing, one for each record of a list.
 ghost use Rattle.std.specs.Prelude.{◌≡◌, ℕ, ◌+◌, ◌*◌, ◌≤◌, List, length};
-ghost use Rattle.listing.specs.Listing.{lines, refused_line, answer_line, mark_number, entry_numbers, entry_line, fields};
-ghost use Rattle.listing.specs.Put.{Put};
+ghost use Rattle.listing.specs.Listing.{lines, refused_line, answer_line, entry_numbers, entry_line, fields};
+ghost use Rattle.listing.specs.Put.{Wrote};
 
-use crate::field::{put_fields, put_lettered};
-use crate::put::put_number;
+use crate::page::Page;
 use measures::entry::Entry;
 use premise::happening::Happening;
 
@@ -15,23 +14,21 @@ pub(crate) trait Listed {
     // the most bytes of a line
     ghost longest: { ℕ };
 
-    fn put_line(&self, buffer: &mut [u8], at: usize) -> usize
-        requires { at + longest ≤ length buffer.old }
-        ensures text { Put at (line self.now) buffer.old result buffer.new }
-        ensures few { result ≤ at + longest };
+    fn put_line(&self, page: &mut Page)
+        requires { page.old.end + longest ≤ length page.old.buffer.now }
+        ensures text { Wrote (line self.now) page.old page.new }
+        ensures few { page.new.end ≤ page.old.end + longest };
 }
 
 // Writes the lines of the records, one after the other.
-pub(crate) fn put_lines<L: Listed>(buffer: &mut [u8], at: usize, records: &[L]) -> usize
-    requires { at + L.longest * length records.now ≤ length buffer.old }
-    ensures text { Put at (lines L.line records.now) buffer.old result buffer.new }
-    ensures few { result ≤ at + L.longest * length records.now }
+pub(crate) fn put_lines<L: Listed>(page: &mut Page, records: &[L])
+    requires { page.old.end + L.longest * length records.now ≤ length page.old.buffer.now }
+    ensures text { Wrote (lines L.line records.now) page.old page.new }
+    ensures few { page.new.end ≤ page.old.end + L.longest * length records.now }
 {
-    let mut end = at;
     for record in records {
-        end = record.put_line(buffer, end);
+        record.put_line(page);
     }
-    end
 }
 
 // The letter of a call and what it answered, or N and the number of its refusal.
@@ -40,35 +37,29 @@ impl Listed for Happening {
 
     ghost longest = { 21 };
 
-    fn put_line(&self, buffer: &mut [u8], at: usize) -> usize {
+    fn put_line(&self, page: &mut Page) {
         match self {
-            Happening::Read(_, _, Ok((kind, kwh, corrected))) => put_lettered(
-                buffer,
-                at,
-                b'R',
-                &[*kind as u32, *kwh, *corrected as u32],
-            ),
-            Happening::Miss(_, Ok((kind, rung, kwh))) => put_lettered(
-                buffer,
-                at,
-                b'M',
-                &[*kind as u32, *rung as u32, *kwh],
-            ),
-            Happening::Move(_, Ok(())) => put_lettered(buffer, at, b'C', &[]),
-            Happening::Read(_, _, Err(number)) => put_refused(buffer, at, *number),
-            Happening::Miss(_, Err(number)) => put_refused(buffer, at, *number),
-            Happening::Move(_, Err(number)) => put_refused(buffer, at, *number),
+            Happening::Read(_, _, Ok((kind, kwh, corrected))) => {
+                page.lettered(b'R', &[u32::from(*kind), *kwh, u32::from(*corrected)])
+            }
+            Happening::Miss(_, Ok((kind, rung, kwh))) => {
+                page.lettered(b'M', &[u32::from(*kind), u32::from(*rung), *kwh])
+            }
+            Happening::Move(_, Ok(())) => page.lettered(b'C', &[]),
+            Happening::Read(_, _, Err(number))
+            | Happening::Miss(_, Err(number))
+            | Happening::Move(_, Err(number)) => put_refused(page, *number),
         }
     }
 }
 
 // Writes the line of a refused call.
-fn put_refused(buffer: &mut [u8], at: usize, number: u8) -> usize
-    requires { at + 6 ≤ length buffer.old }
-    ensures text { Put at (refused_line number) buffer.old result buffer.new }
-    ensures few { result ≤ at + 6 }
+fn put_refused(page: &mut Page, number: u8)
+    requires { page.old.end + 6 ≤ length page.old.buffer.now }
+    ensures text { Wrote (refused_line number) page.old page.new }
+    ensures few { page.new.end ≤ page.old.end + 6 }
 {
-    put_lettered(buffer, at, b'N', &[number as u32])
+    page.lettered(b'N', &[u32::from(number)]);
 }
 
 impl Listed for Entry {
@@ -76,9 +67,9 @@ impl Listed for Entry {
 
     ghost longest = { 44 };
 
-    fn put_line(&self, buffer: &mut [u8], at: usize) -> usize {
-        let end = put_number(buffer, at, self.customer);
-        put_fields(buffer, end, &numbers_of(*self))
+    fn put_line(&self, page: &mut Page) {
+        page.number(self.customer);
+        page.fields(&numbers_of(*self));
     }
 }
 
@@ -88,20 +79,12 @@ fn numbers_of(e: Entry) -> [u32; 7]
     ensures few { length (fields result) ≤ 34 }
 {
     [
-        e.end_day as u32,
-        e.days as u32,
-        e.usage_days as u32,
-        e.kind.number() as u32,
-        e.rung as u32,
-        mark_number(e.initial),
+        u32::from(e.end_day),
+        u32::from(e.days),
+        u32::from(e.usage_days),
+        u32::from(u8::from(e.kind)),
+        u32::from(e.rung),
+        u32::from(e.initial),
         e.kwh,
     ]
-}
-
-// The number that stands for the initial mark.
-fn mark_number(initial: bool) -> u32
-    ensures value { result ≡ mark_number initial }
-    ensures few { result ≤ 1 }
-{
-    if initial { 1 } else { 0 }
 }

@@ -1,10 +1,10 @@
 // A whole listing.
 ghost use Rattle.std.specs.Prelude.{◌≡◌, ◌+◌, ◌≤◌, ◌++◌, length, is_ok, IfOk, if◌then◌else◌, decimal};
 ghost use Rattle.listing.specs.Listing.{listing, listed, in_front};
-ghost use Rattle.listing.specs.Put.{Put};
+ghost use Rattle.listing.specs.Put.{Wrote};
 
 use crate::line::put_lines;
-use crate::put::{put_number, put_text};
+use crate::page::Page;
 use measures::entry::Entry;
 use measures::refusal;
 use premise::happening::Happening;
@@ -24,21 +24,23 @@ pub fn list(happened: &[Happening], entries: &[Entry], buffer: &mut [u8]) -> Res
     if buffer.len() < LEAST_BUFFER || happened.len() > MOST_LINES || entries.len() > MOST_LINES {
         return Err(refusal::LISTING);
     }
-    let end = put_count(buffer, 0, happened.len(), b" ANSWERS\n");
-    let end = put_lines(buffer, end, happened);
-    let end = put_count(buffer, end, entries.len(), b" ENTRIES\n");
-    Ok(put_lines(buffer, end, entries))
+    let mut page = Page { buffer, end: 0 };
+    put_count(&mut page, happened.len(), b" ANSWERS\n");
+    put_lines(&mut page, happened);
+    put_count(&mut page, entries.len(), b" ENTRIES\n");
+    put_lines(&mut page, entries);
+    Ok(page.end)
 }
 
 // Writes a line that says how many of a name follow.
-fn put_count(buffer: &mut [u8], at: usize, count: usize, name: &[u8]) -> usize
+fn put_count(page: &mut Page, count: usize, name: &[u8])
     requires count { count ≤ 240 }
-    requires room { at + (3 + length name.now) ≤ length buffer.old }
-    ensures text { Put at (decimal count ++ name.now) buffer.old result buffer.new }
-    ensures few { result ≤ at + (3 + length name.now) }
+    requires room { page.old.end + (3 + length name.now) ≤ length page.old.buffer.now }
+    ensures text { Wrote (decimal count ++ name.now) page.old page.new }
+    ensures few { page.new.end ≤ page.old.end + (3 + length name.now) }
 {
-    let end = put_number(buffer, at, count as u32);
-    put_text(buffer, end, name)
+    page.number(count as u32);
+    page.text(name);
 }
 
 #[cfg(test)]

@@ -3,9 +3,8 @@ ghost use Rattle.std.specs.Prelude.{◌≡◌, ◌≤◌, [], ◌∷◌, length,
 ghost use Rattle.listing.specs.Listing.{in_front};
 ghost use Rattle.listing.specs.Refused.{section_letter, notice_line, sheet_refused};
 
-use crate::field::put_lettered;
 use crate::list::LEAST_BUFFER;
-use crate::put::put_text;
+use crate::page::Page;
 use measures::refusal;
 use sheets::notice::{Notice, Section};
 
@@ -29,9 +28,11 @@ pub fn list_refusal(notice: Notice, buffer: &mut [u8]) -> Result<usize, u8>
     if buffer.len() < LEAST_BUFFER {
         return Err(refusal::LISTING);
     }
-    let end = put_text(buffer, 0, b"X ");
-    let fields = [notice.line, notice.field, notice.number as u32];
-    Ok(put_lettered(buffer, end, letter_of(notice.section), &fields))
+    let mut page = Page { buffer, end: 0 };
+    page.text(b"X ");
+    let fields = [notice.line, notice.field, u32::from(notice.number)];
+    page.lettered(letter_of(notice.section), &fields);
+    Ok(page.end)
 }
 
 #[cfg(test)]

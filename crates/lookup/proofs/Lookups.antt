@@ -1,7 +1,6 @@
 -- The latest record that passes a test.
-use Rattle.std.proofs.Common.{◌≡◌, ℕ, zero, suc, ◌+◌, ◌-◌, ◌<◌, ◌≤◌, Bool, true, false, cond, List, [], ◌∷◌, length, get_or, drop, Some, None, Option, sym, refl, ap, ◌∙◌, subst, ⊎_elim, le_of_suc-le-suc, not-suc-le-zero, arith}
-use Rattle.std.proofs.lemmas.List.{at_drop_more}
-use Rattle.std.proofs.lemmas.Bool.{cond-true, cond-false, cond_both, both_ways, cases_order}
+use Rattle.std.proofs.Common.{◌≡◌, ℕ, zero, suc, ◌+◌, ◌<◌, ◌≤◌, Bool, true, false, cond, List, [], ◌∷◌, ◌++◌, length, get_or, Some, None, Option, sym, refl, ap, ◌∙◌, subst, ⊎_elim, append_assoc, le_of_suc-le-suc, not-suc-le-zero, arith}
+use Rattle.std.proofs.lemmas.Bool.{cond_both, both_ways, cases_order}
 use Rattle.estimating.specs.Tables.{first_then}
 use Rattle.estimating.specs.Cases.{none_some}
 use Rattle.lookup.specs.Places.{record_at, found_at}
@@ -21,25 +20,14 @@ module _ {R : Type 0} where
   pub same_record : (r : Option R) (x y : R) → r ≡ Some x → r ≡ Some y → x ≡ y
   same_record r x y e f = cc
 
+  -- a book that ends in some records, once one more of them is parted from those before
+  pub parted : (book front back before : List R) (x : R) → book ≡ front ++ back → front ≡ before ++ (x ∷ []) → book ≡ before ++ (x ∷ back)
+  parted book front back before x e f = e ∙ ap (λ xs. xs ++ back) f ∙ append_assoc before (x ∷ []) back
+
 module _ {R : Type 0} (test : R → Bool) where
-  -- one record more, before a place from which on none passes
-  place_more : (book : List R) (i : ℕ) (x : R) → 0 < i → i ≤ length book → latest_place test (drop i book) ≡ None → x ≡ get_or book (i - 1) x → latest_place test (drop (i - 1) book) ≡ cond (test x) (Some 0) None
-  place_more book i x p h n e =
-      let back : i - 1 + 1 ≡ i = omega arith in
-      let here : latest_place test (drop (i - 1) book) ≡ first_then (one_on (latest_place test (drop (i - 1 + 1) book))) (cond (test (get_or book (i - 1) x)) (Some 0) None) = at_drop_more (latest_place test) book (i - 1) x (omega arith) in
-      here ∙ rw (back, n, ← e)
-
-  pub place_no : (book : List R) (i : ℕ) (x : R) → 0 < i → i ≤ length book → latest_place test (drop i book) ≡ None → x ≡ get_or book (i - 1) x → test x ≡ false → latest_place test (drop (i - 1) book) ≡ None
-  place_no book i x p h n e t = place_more book i x p h n e ∙ cond-false _ _ _ t
-
-  -- what is latest from its place on is latest in the book
-  place_from : (i : ℕ) (book : List R) → latest_place test (drop i book) ≡ Some 0 → latest_place test book ≡ Some i
-  place_from zero book e = e
-  place_from (suc i) [] e = none_some None 0 refl e
-  place_from (suc i) (y ∷ book) e = ap (λ p. first_then (one_on p) (cond (test y) (Some 0) None)) (place_from i book e)
-
-  pub place_yes : (book : List R) (i : ℕ) (x : R) → 0 < i → i ≤ length book → latest_place test (drop i book) ≡ None → x ≡ get_or book (i - 1) x → test x ≡ true → Some (i - 1) ≡ latest_place test book
-  place_yes book i x p h n e t = sym (place_from (i - 1) book (place_more book i x p h n e ∙ cond-true _ _ _ t))
+  pub place_from : (front : List R) (x : R) (back : List R) → latest_place test back ≡ None → test x ≡ true → latest_place test (front ++ (x ∷ back)) ≡ Some (length front)
+  place_from [] x back n t = rw (n, t) refl
+  place_from (y ∷ front) x back n t = ap (λ p. first_then (one_on p) (cond (test y) (Some 0) None)) (place_from front x back n t)
 
   -- behind a record that passes, or does not, come those that do not
   none_more : (x : R) (book : List R) → test x ≡ false → NonePasses test book → NonePasses test (x ∷ book)

@@ -1,19 +1,12 @@
 -- The six latest records that pass a test.
-use Rattle.std.proofs.Common.{◌≡◌, ℕ, suc, ◌+◌, ◌-◌, ◌<◌, ◌≤◌, Bool, true, false, cond, List, [], ◌∷◌, ◌++◌, length, get_or, take, drop, filter, sym, refl, ap, ◌∙◌, ⊎_elim, arith}
-use Rattle.std.proofs.lemmas.List.{at_drop_more, drop_at, take-append-drop, length-append}
+use Rattle.std.proofs.Common.{◌≡◌, ℕ, suc, ◌+◌, ◌-◌, ◌<◌, ◌≤◌, Bool, true, List, [], ◌∷◌, ◌++◌, length, take, drop, filter, sym, refl, ap, ◌∙◌, ⊎_elim, arith}
+use Rattle.std.proofs.lemmas.List.{drop_at, take-append-drop, length-append}
 use Rattle.std.proofs.lemmas.List.Elements.{filter-append}
 use Rattle.std.proofs.lemmas.Bool.{cond-true, cond-false, cases_eq, cases_lt, cases_Bool}
 use Rattle.lookup.specs.declared.six.Six.{Six}
-use Rattle.lookup.specs.Six.{total, last_six, sum_up, six_latest}
+use Rattle.lookup.specs.Six.{total, last_six, sum_up, six_latest, SixLatest}
 
 module _ {R : Type 0} (test : R → Bool) where
-  -- those that pass from one place earlier on
-  kept_more : (book : List R) (i : ℕ) (x : R) → 0 < i → i ≤ length book → x ≡ get_or book (i - 1) x → filter test (drop (i - 1) book) ≡ cond (test x) (x ∷ filter test (drop i book)) (filter test (drop i book))
-  kept_more book i x p h e =
-      let back : i - 1 + 1 ≡ i = omega arith in
-      let here : filter test (drop (i - 1) book) ≡ cond (test (get_or book (i - 1) x)) (get_or book (i - 1) x ∷ filter test (drop (i - 1 + 1) book)) (filter test (drop (i - 1 + 1) book)) = at_drop_more (filter test) book (i - 1) x (omega arith) in
-      here ∙ rw (back, ← e)
-
   -- where six pass from a place on, those are the last six
   last_from : (book : List R) (i : ℕ) → length (filter test (drop i book)) ≡ 6 → last_six (filter test book) ≡ filter test (drop i book)
   last_from book i six =
@@ -47,24 +40,34 @@ module _ {R : Type 0} (test : R → Bool) where
       (cases_lt (length (filter test book)) n)
 
   module _ (used metered : R → ℕ) where
-    pub sum_yes : (book : List R) (i : ℕ) (x : R) (s : Six) (u m : ℕ) → 0 < i → i ≤ length book → x ≡ get_or book (i - 1) x → test x ≡ true
-        → u ≡ used x → m ≡ metered x
-        → s ≡ sum_up used metered (filter test (drop i book))
-        → record { count = s.count + 1; usage_days = s.usage_days + u; kwh = s.kwh + m } ≡ sum_up used metered (filter test (drop (i - 1) book))
-    sum_yes book i x s u m p h e t us ms now =
-        let kept : filter test (drop (i - 1) book) ≡ x ∷ filter test (drop i book) = kept_more book i x p h e ∙ cond-true _ _ _ t in
-        let n : s.count + 1 ≡ suc (length (filter test (drop i book))) = omega (arith, ap (λ (z : Six). z.count) now) in
-        let d : s.usage_days + u ≡ used x + total used (filter test (drop i book)) = omega (arith, ap (λ (z : Six). z.usage_days) now) in
-        let k : s.kwh + m ≡ metered x + total metered (filter test (drop i book)) = omega (arith, ap (λ (z : Six). z.kwh) now) in
+    pub sum_yes : (x : R) (back : List R) (s : Six) (u m : ℕ) → test x ≡ true → u ≡ used x → m ≡ metered x
+        → s ≡ sum_up used metered (filter test back)
+        → record { count = s.count + 1; usage_days = s.usage_days + u; kwh = s.kwh + m } ≡ sum_up used metered (filter test (x ∷ back))
+    sum_yes x back s u m t us ms now =
+        let kept : filter test (x ∷ back) ≡ x ∷ filter test back = cond-true _ _ _ t in
+        let n : s.count + 1 ≡ suc (length (filter test back)) = omega (arith, ap (λ (z : Six). z.count) now) in
+        let d : s.usage_days + u ≡ used x + total used (filter test back) = omega (arith, ap (λ (z : Six). z.usage_days) now) in
+        let k : s.kwh + m ≡ metered x + total metered (filter test back) = omega (arith, ap (λ (z : Six). z.kwh) now) in
         rw (kept, n, d, k) refl
 
-    pub sum_no : (book : List R) (i : ℕ) (x : R) (s : Six) → 0 < i → i ≤ length book → x ≡ get_or book (i - 1) x → test x ≡ false
-        → s ≡ sum_up used metered (filter test (drop i book))
-        → s ≡ sum_up used metered (filter test (drop (i - 1) book))
-    sum_no book i x s p h e t now = now ∙ ap (sum_up used metered) (sym (kept_more book i x p h e ∙ cond-false _ _ _ t))
-
     -- what was summed up from a place on, six or all, is what the six latest come to
-    pub six_from : (book : List R) (i : ℕ) (s : Six) → s ≡ sum_up used metered (filter test (drop i book)) → s.count ≤ 6 → (s.count < 6 → i ≡ 0) → s ≡ six_latest test used metered book
+    six_from : (book : List R) (i : ℕ) (s : Six) → s ≡ sum_up used metered (filter test (drop i book)) → s.count ≤ 6 → (s.count < 6 → i ≡ 0) → s ≡ six_latest test used metered book
     six_from book i s now few all =
         let n : s.count ≡ length (filter test (drop i book)) = ap (λ (z : Six). z.count) now in
         now ∙ ap (sum_up used metered) (sym (last_place book i (rw n at few) (λ less. all (omega arith))))
+
+    -- the same of a book that is the records before that place and those from it on
+    pub six_law : (book front back : List R) (s : Six) → book ≡ front ++ back → s ≡ sum_up used metered (filter test back) → s.count ≤ 6 → (s.count < 6 → length front ≡ 0)
+        → (s ≡ six_latest test used metered book) × SixLatest test used metered book s
+    six_law book front back s e now few all =
+        let d : drop (length front) book ≡ back = ap (drop (length front)) e ∙ drop_at front back (length front) refl in
+        let at : s ≡ sum_up used metered (filter test (drop (length front) book)) = now ∙ ap (λ xs. sum_up used metered (filter test xs)) (sym d) in (
+          six_from book (length front) s at few all,
+          record {
+            place = length front;
+            in_book = omega (arith, ap length e, length-append front back);
+            found = at;
+            no_more = few;
+            all = all;
+          },
+        )

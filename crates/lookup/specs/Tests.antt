@@ -1,4 +1,5 @@
 -- The tests by which records are looked up.
+--   pick w m n                 m for the customer's own records, n for anyone's
 --   asked w c q                whether records of the customer c are looked at for the customer q
 --   OfWhose w c q              the same as a statement
 --   in_season s d              whether the day d is in the season s; never off the calendar
@@ -12,6 +13,10 @@ use Rattle.calendar.specs.declared.Season.TheVariants.{Summer, Winter}
 use Rattle.calendar.specs.Calendar.{season_of, year_before}
 use Rattle.lookup.specs.declared.fit.Whose.{Whose}
 use Rattle.lookup.specs.declared.fit.Whose.TheVariants.{Customer, Anyone}
+
+abbrev pub pick : Whose → ℕ → ℕ → ℕ
+pick Customer m n = m
+pick Anyone m n = n
 
 abbrev pub asked : Whose → ℕ → ℕ → Bool
 asked Customer c q = c == q

@@ -1,7 +1,7 @@
 // The tests by which records are looked up.
 ghost use Rattle.std.specs.Prelude.{◌≡◌, Bool, ◌&&◌};
 ghost use Rattle.calendar.specs.Calendar.{year_before};
-ghost use Rattle.lookup.specs.Tests.{asked, in_season, available};
+ghost use Rattle.lookup.specs.Tests.{pick, asked, in_season, available};
 
 use crate::record::{TellsCustomer, TellsEndDay, TellsUse};
 use calendar::Season;
@@ -20,6 +20,18 @@ pub trait Fit<R> {
 pub enum Whose {
     Customer,
     Anyone,
+}
+
+impl Whose {
+    // The first of two numbers for the customer's own records, the second for anyone's.
+    pub fn pick(self, own: u8, anyone: u8) -> u8
+        ensures answer { result ≡ pick self own anyone }
+    {
+        match self {
+            Whose::Customer => own,
+            Whose::Anyone => anyone,
+        }
+    }
 }
 
 // Passes the records of a customer, or of anyone.
@@ -64,11 +76,7 @@ impl<R: TellsEndDay> Fit<R> for InSeason {
     ghost fits = { λ f x. in_season f.season (R.TellsEndDay.ends x) };
 
     fn fit(&self, candidate: &R) -> bool {
-        match (self.season, calendar::season_of(candidate.end_day())) {
-            (Season::Summer, Some(Season::Summer)) => true,
-            (Season::Winter, Some(Season::Winter)) => true,
-            _ => false,
-        }
+        calendar::season_of(candidate.end_day()) == Some(self.season)
     }
 }
 
@@ -86,7 +94,7 @@ impl<R: TellsUse> Fit<R> for Available {
 
     fn fit(&self, candidate: &R) -> bool {
         let days = candidate.usage_days();
-        days >= 1 && days <= MOST_USAGE_DAYS && candidate.kwh() < KWH_TOO_MANY
+        (1..=MOST_USAGE_DAYS).contains(&days) && candidate.kwh() < KWH_TOO_MANY
     }
 }
 

@@ -13,10 +13,12 @@ pub fn latest_place<R, F: Fit<R>>(book: &[R], fit: &F) -> Option<usize>
     ensures answer { result ≡ latest_place (F.fits fit.now) book.now }
     ensures found { PlaceOrNone (F.fits fit.now) book.now result }
 {
-    for i in (0..book.len()).rev() {
-        if fit.fit(&book[i]) {
-            return Some(i);
+    let mut front = book;
+    while let Some((last, before)) = front.split_last() {
+        if fit.fit(last) {
+            return Some(before.len());
         }
+        front = before;
     }
     None
 }
@@ -33,10 +35,7 @@ pub fn latest<'a, R, F: Fit<R>>(book: &'a [R], fit: &F) -> Option<&'a R>
 pub fn newest_place<R>(book: &[R]) -> Option<usize>
     ensures answer { result ≡ newest_place book.now }
 {
-    if book.len() == 0 {
-        return None;
-    }
-    Some(book.len() - 1)
+    book.len().checked_sub(1)
 }
 
 // The very last record; none in an empty book.
@@ -44,39 +43,29 @@ pub fn newest<R>(book: &[R]) -> Option<&R>
     ensures answer { held result ≡ newest book.now }
     ensures found { NewestOrNone book.now (held result) }
 {
-    record_at(book, newest_place(book)?)
+    book.last()
 }
 
 // The place of the latest record of a customer, or of anyone, in the same month of the year as a day, one year earlier.
-pub fn year_back_place<R: TellsCustomer>(
-    book: &[R],
-    whose: Whose,
-    customer: u32,
-    end_day: u32,
-) -> Option<usize>
-    ensures answer { result ≡ year_back_place R.TellsCustomer.billed R.TellsEndDay.ends whose customer end_day book.now }
-    ensures found { PlaceOrNone (a_year_back R.TellsCustomer.billed R.TellsEndDay.ends whose customer end_day) book.now result }
+pub fn year_back_place<R: TellsCustomer>(book: &[R], of: OfCustomer, end_day: u32) -> Option<usize>
+    ensures answer { result ≡ year_back_place R.TellsCustomer.billed R.TellsEndDay.ends of.whose of.customer end_day book.now }
+    ensures found { PlaceOrNone (a_year_back R.TellsCustomer.billed R.TellsEndDay.ends of.whose of.customer end_day) book.now result }
 {
     latest_place(
         book,
         &Both {
-            first: OfCustomer { whose, customer },
+            first: of,
             second: YearBefore { end_day },
         },
     )
 }
 
 // That record itself.
-pub fn year_back<R: TellsCustomer>(
-    book: &[R],
-    whose: Whose,
-    customer: u32,
-    end_day: u32,
-) -> Option<&R>
-    ensures answer { held result ≡ year_back R.TellsCustomer.billed R.TellsEndDay.ends whose customer end_day book.now }
-    ensures found { LatestOrNone (a_year_back R.TellsCustomer.billed R.TellsEndDay.ends whose customer end_day) book.now (held result) }
+pub fn year_back<R: TellsCustomer>(book: &[R], of: OfCustomer, end_day: u32) -> Option<&R>
+    ensures answer { held result ≡ year_back R.TellsCustomer.billed R.TellsEndDay.ends of.whose of.customer end_day book.now }
+    ensures found { LatestOrNone (a_year_back R.TellsCustomer.billed R.TellsEndDay.ends of.whose of.customer end_day) book.now (held result) }
 {
-    record_at(book, year_back_place(book, whose, customer, end_day)?)
+    record_at(book, year_back_place(book, of, end_day)?)
 }
 
 #[cfg(test)]
@@ -138,12 +127,22 @@ mod tests {
         assert_eq!(rt; kw_of(newest(&book[0..0])), None);
     }
 
+    const fn of(whose: Whose, customer: u32) -> OfCustomer {
+        OfCustomer { whose, customer }
+    }
+
     #[test]
     fn peaks_a_year_back(rt: HostRuntime) {
         let book = peaks();
-        assert_eq!(rt; year_back_place(&book, Whose::Customer, 1, 424), Some(1));
-        assert_eq!(rt; kw_of(year_back(&book, Whose::Customer, 1, 424)), Some(6));
-        assert_eq!(rt; kw_of(year_back(&book, Whose::Anyone, 1, 424)), Some(7));
-        assert_eq!(rt; kw_of(year_back(&book, Whose::Customer, 3, 424)), None);
+        assert_eq!(rt;
+            year_back_place(&book, of(Whose::Customer, 1), 424),
+            Some(1)
+        );
+        assert_eq!(rt;
+            kw_of(year_back(&book, of(Whose::Customer, 1), 424)),
+            Some(6)
+        );
+        assert_eq!(rt; kw_of(year_back(&book, of(Whose::Anyone, 1), 424)), Some(7));
+        assert_eq!(rt; kw_of(year_back(&book, of(Whose::Customer, 3), 424)), None);
     }
 }

@@ -6,20 +6,14 @@ ghost use Rattle.lookup.specs.Places.{held, record_at, record_before};
 pub fn record_at<R>(book: &[R], place: usize) -> Option<&R>
     ensures answer { held result ≡ record_at book.now place }
 {
-    if place >= book.len() {
-        return None;
-    }
-    Some(&book[place])
+    book.get(place)
 }
 
 // The record directly before a place; none before the first.
 pub fn record_before<R>(book: &[R], place: usize) -> Option<&R>
     ensures answer { held result ≡ record_before book.now place }
 {
-    if place == 0 {
-        return None;
-    }
-    record_at(book, place - 1)
+    record_at(book, place.checked_sub(1)?)
 }
 
 #[cfg(test)]

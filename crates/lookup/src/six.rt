@@ -28,34 +28,30 @@ pub fn six_latest<R: TellsUse, F: Fit<R>>(book: &[R], fit: &F) -> Six
         usage_days: 0,
         kwh: 0,
     };
-    for i in (0..book.len()).rev() {
-        let candidate = &book[i];
-        if fit.fit(candidate) {
+    let mut front = book;
+    while let Some((last, before)) = front.split_last() {
+        if fit.fit(last) {
             six.count += 1;
-            six.usage_days += candidate.usage_days() as u32;
-            six.kwh += candidate.kwh() as u64;
+            six.usage_days += last.usage_days() as u32;
+            six.kwh += last.kwh() as u64;
             if six.count == SIX {
                 return six;
             }
         }
+        front = before;
     }
     six
 }
 
 // The six latest available records of a customer, or of anyone, in a season of any year.
-pub fn seasonal_sum<R: TellsCustomer + TellsUse>(
-    book: &[R],
-    whose: Whose,
-    customer: u32,
-    season: Season,
-) -> Six
-    ensures answer { result ≡ six_latest (in_the_season R.TellsCustomer.billed R.TellsEndDay.ends R.used R.metered whose customer season) R.used R.metered book.now }
-    ensures found { SixLatest (in_the_season R.TellsCustomer.billed R.TellsEndDay.ends R.used R.metered whose customer season) R.used R.metered book.now result }
+pub fn seasonal_sum<R: TellsCustomer + TellsUse>(book: &[R], of: OfCustomer, season: Season) -> Six
+    ensures answer { result ≡ six_latest (in_the_season R.TellsCustomer.billed R.TellsEndDay.ends R.used R.metered of.whose of.customer season) R.used R.metered book.now }
+    ensures found { SixLatest (in_the_season R.TellsCustomer.billed R.TellsEndDay.ends R.used R.metered of.whose of.customer season) R.used R.metered book.now result }
 {
     six_latest(
         book,
         &Both {
-            first: OfCustomer { whose, customer },
+            first: of,
             second: Both {
                 first: InSeason { season },
                 second: Available,
@@ -125,6 +121,10 @@ mod tests {
         }
     }
 
+    const fn of(whose: Whose, customer: u32) -> OfCustomer {
+        OfCustomer { whose, customer }
+    }
+
     // 0 is 1 January 2000 and 200 a day of July; 366 is 1 January 2001.
     #[test]
     fn six_of_a_winter(rt: HostRuntime) {
@@ -134,20 +134,23 @@ mod tests {
         book[7] = used(1, 366, 22, 1);
         let own = Whose::Customer;
         assert_eq!(rt;
-            seasonal_sum(&book, own, 1, Season::Winter),
+            seasonal_sum(&book, of(own, 1), Season::Winter),
             found(6, 127, 499_999_996)
         );
         assert_eq!(rt;
-            seasonal_sum(&book[1..8], own, 1, Season::Winter),
+            seasonal_sum(&book[1..8], of(own, 1), Season::Winter),
             found(5, 106, 399_999_997)
         );
         assert_eq!(rt;
-            seasonal_sum(&book, own, 2, Season::Winter),
+            seasonal_sum(&book, of(own, 2), Season::Winter),
             found(1, 21, 50)
         );
-        assert_eq!(rt; seasonal_sum(&book, own, 3, Season::Winter), found(0, 0, 0));
         assert_eq!(rt;
-            seasonal_sum(&book, Whose::Anyone, 3, Season::Winter),
+            seasonal_sum(&book, of(own, 3), Season::Winter),
+            found(0, 0, 0)
+        );
+        assert_eq!(rt;
+            seasonal_sum(&book, of(Whose::Anyone, 3), Season::Winter),
             found(6, 127, 400_000_047)
         );
     }

@@ -14,9 +14,13 @@ pub enum Dial {
     Eight,
 }
 
-impl Dial {
-    // The dial that has so many digits.
-    pub fn of_digits(digits: u32) -> Result<Dial, u8>
+// The dial that has so many digits.
+impl TryFrom<u32> for Dial {
+    type Error = u8;
+
+    ghost try_from_gives = { λ digits r. (r ≡ dial_of digits) × Shows digits r };
+
+    fn try_from(digits: u32) -> Result<Dial, u8>
         ensures answer { result ≡ dial_of digits }
         ensures shows { Shows digits result }
     {
@@ -29,7 +33,9 @@ impl Dial {
             _ => Err(refusal::DIGITS),
         }
     }
+}
 
+impl Dial {
     // The number at which the dial is back at 0: its registers are those below.
     pub fn turn(self) -> u32
         ensures answer { result ≡ turn_of self }
@@ -61,7 +67,7 @@ pub fn advance(digits: u32, from: u32, to: u32) -> Result<u32, u8>
     ensures answer { result ≡ advance_of digits from to }
     ensures brings { Advanced digits from to result }
 {
-    Dial::of_digits(digits)?.advance(from, to)
+    Dial::try_from(digits)?.advance(from, to)
 }
 
 #[cfg(test)]

@@ -12,12 +12,12 @@ pub enum Kind {
     Corrected,
 }
 
-impl Kind {
-    // The number that stands for the kind, from 1 to 5.
-    pub fn number(self) -> u8
-        ensures answer { result ≡ kind_number self }
-    {
-        match self {
+// The number that stands for a kind, from 1 to 5.
+impl From<Kind> for u8 {
+    ghost from_gives = { λ kind r. r ≡ kind_number kind };
+
+    fn from(kind: Kind) -> u8 {
+        match kind {
             Kind::Actual => 1,
             Kind::TrueUp => 2,
             Kind::Estimated => 3,
@@ -45,16 +45,30 @@ pub struct Entry {
     pub kwh: u32,
 }
 
+impl Entry {
+    // What stands at a place of a book that is not in use.
+    pub const BLANK: Entry = Entry {
+        customer: 0,
+        end_day: 0,
+        days: 0,
+        usage_days: 0,
+        kind: Kind::Actual,
+        rung: 0,
+        initial: false,
+        kwh: 0,
+    };
+}
+
 #[cfg(test)]
 mod tests {
     use super::*;
 
     #[test]
     fn numbers(rt: HostRuntime) {
-        assert_eq!(rt; Kind::Actual.number(), 1);
-        assert_eq!(rt; Kind::TrueUp.number(), 2);
-        assert_eq!(rt; Kind::Estimated.number(), 3);
-        assert_eq!(rt; Kind::PutOff.number(), 4);
-        assert_eq!(rt; Kind::Corrected.number(), 5);
+        assert_eq!(rt; u8::from(Kind::Actual), 1);
+        assert_eq!(rt; u8::from(Kind::TrueUp), 2);
+        assert_eq!(rt; u8::from(Kind::Estimated), 3);
+        assert_eq!(rt; u8::from(Kind::PutOff), 4);
+        assert_eq!(rt; u8::from(Kind::Corrected), 5);
     }
 }

@@ -4,57 +4,28 @@
 mod input;
 
 use demand::demand_of;
-use input::{Fault, MOST_BYTES};
+use demand::question::DemandAnswer;
+use desk::fault::Fault;
+use input::{MOST_BYTES, Wrong};
 use std::alloc::Global;
-use std::io::Read;
 use std::process::ExitCode;
 
 // What the program prints for the bytes of its input: the answer's number and tenths of a kW, or N and the refusal's number.
-fn listing(heap: Global, bytes: &[u8]) -> Result<String, Fault> {
+fn listing(heap: Global, bytes: &[u8]) -> Result<String, Fault<Wrong>> {
     let job = input::read_job(heap, bytes)?;
     match demand_of(job.book.as_slice(), &job.question) {
-        Ok(answer) => {
-            let number = answer.number;
-            let tenths = answer.tenths;
-            Ok(format!(in heap; "{number} {tenths}\n")?)
-        }
+        Ok(DemandAnswer { number, tenths }) => Ok(format!(in heap; "{number} {tenths}\n")?),
         Err(number) => Ok(format!(in heap; "N {number}\n")?),
     }
 }
 
-// A fault is printed here, since its text is longer than what an error of `anyhow` keeps.
-fn run(rt: &HostRuntime) -> anyhow::Result<ExitCode> {
-    let mut bytes = Vec::new(rt.alloc());
-    rt.stdin()
-        .take(MOST_BYTES as u64 + 1)
-        .read_to_end(&mut bytes)?;
-    match listing(rt.alloc(), bytes.as_slice()) {
-        Ok(listing) => {
-            print!(rt; "{listing}")?;
-            Ok(ExitCode::SUCCESS)
-        }
-        Err(fault) => {
-            eprintln!(rt; "{fault}")?;
-            Ok(ExitCode::FAILURE)
-        }
-    }
-}
-
-// What is wrong is one line on standard error; where that cannot be written, the status alone tells of it.
 fn main(rt: HostRuntime) -> ExitCode {
-    match run(&rt) {
-        Ok(status) => status,
-        Err(e) => {
-            let _ = eprintln!(rt; "{e}");
-            ExitCode::FAILURE
-        }
-    }
+    desk::program::run(&rt, MOST_BYTES, |bytes| listing(rt.alloc(), bytes))
 }
 
 #[cfg(test)]
 mod tests {
     use super::*;
-    use crate::input::Wrong;
     use std::process::Abort;
     use std::test::Fail;
 

@@ -13,7 +13,7 @@ use Rattle.sharing.specs.Entries.{is_put_off, entry_part, entry_weight, entry_gi
 use Rattle.sharing.proofs.Shares.{shared_out}
 use Rattle.estimating.specs.declared.basis.Question.{Question}
 use Rattle.estimating.specs.declared.basis.Basis.{Basis}
-use Rattle.premise.specs.declared.read.Billing.TheVariants.{Alone, Shared}
+use Rattle.premise.specs.declared.period.Billing.TheVariants.{Alone, Shared}
 use Rattle.premise.specs.declared.file.PremiseFile.{PremiseFile}
 use Rattle.premise.specs.Books.{no_entry, any_estimated, corrections, waiting_days}
 use Rattle.premise.specs.Files.{in_use, open_count, is_fresh, open_run, open_sum, closing, putting_off, usage_days_of, shared_run, corrected_book, as_actual, billing, billed, question}

@@ -1,5 +1,5 @@
 -- The law over whole histories.
-use Rattle.std.proofs.Common.{◌≡◌, ℕ, Bool, true, List, [], ◌∷◌, ◌++◌, IfOk, Ok, Err, Option, Result, sym, refl, ap, ◌∙◌}
+use Rattle.std.proofs.Common.{◌≡◌, ℕ, Bool, true, List, [], ◌∷◌, ◌++◌, Ok, Option, sym, refl, ap, ◌∙◌}
 use Rattle.measures.specs.declared.entry.Entry.{Entry}
 use Rattle.measures.specs.Dial.{turn_of}
 use Rattle.estimating.specs.declared.basis.Question.{Question}
@@ -8,8 +8,7 @@ use Rattle.premise.specs.declared.file.PremiseFile.{PremiseFile}
 use Rattle.premise.specs.declared.happening.Happening.{Happening}
 use Rattle.premise.specs.History.{registers, advances, Opened, Happens, Lived, next, Law, same_sums, Agree}
 use Rattle.std.proofs.lemmas.Bool.{cond-true, eq-eqb}
-use Rattle.measures.specs.declared.rate.Rate.{Rate}
-use Rattle.premise.specs.Files.{opens, fits, settled_total, settled_sum}
+use Rattle.premise.specs.Files.{fits, settled_total, settled_sum}
 use Rattle.premise.proofs.Owning.{owned, owned_fits}
 use Rattle.premise.proofs.Standing.{standing}
 use Rattle.premise.proofs.Bills.{stands, call_billed}
@@ -33,12 +32,6 @@ module _ {M J : Type 0} (table : M → List Entry → Question → Option Basis)
   law_next f0 b0 es f b e f' b' o l h = law_of f0 b0 (es ++ (e ∷ [])) f' b' o (next e l h)
 
 module _ {M J : Type 0} where
-  -- an accepted opening has opened the file
-  pub opened_by_call : (m : M) (j : J) (rate : Rate) (digits day register customer : ℕ) (b : List Entry) (r : Result (PremiseFile M J) ℕ) → r ≡ opens m j rate digits day register customer b → IfOk r (λ f. Opened f b)
-  opened_by_call m j rate digits day register customer b (Ok f) e =
-      record { method = m; judgement = j; rate = rate; digits = digits; day = day; register = register; customer = customer; accepts = sym e }
-  opened_by_call m j rate digits day register customer b (Err n) e = tt
-
   -- the settled total is told
   pub told_total : (f : PremiseFile M J) (b : List Entry) (n : ℕ) → fits f b ≡ true → settled_total f b ≡ n → settled_sum f b ≡ Ok n
   told_total f b n h t = cond-true _ _ _ h ∙ ap Ok t

@@ -1,4 +1,3 @@
-pub mod Runs
 pub mod Checks
 pub mod Corrections
 pub mod Totals

@@ -17,7 +17,7 @@ use Rattle.estimating.specs.Estimates.{estimate}
 use Rattle.premise.specs.declared.happening.Happening.{Happening}
 use Rattle.premise.specs.declared.happening.Happening.TheVariants.{Read, Miss, Move}
 use Rattle.premise.specs.declared.file.PremiseFile.{PremiseFile}
-use Rattle.premise.specs.declared.read.Billing.TheVariants.{Alone}
+use Rattle.premise.specs.declared.period.Billing.TheVariants.{Alone}
 use Rattle.premise.specs.Books.{no_entry, sound_entry, sound, waiting_days}
 use Rattle.premise.specs.Files.{in_use, open_count, missed, is_fresh, has_open, open_run, open_sum, fits, closing, putting_off, usage_days_of, shared_run, corrected_book, as_actual, billing, billed, after_read, after_miss, after_move}
 use Rattle.premise.specs.History.{Opened, Happens, Lived, start, next}

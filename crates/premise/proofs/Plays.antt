@@ -1,6 +1,6 @@
 -- Calls that were played are a history.
-use Rattle.std.proofs.Common.{◌≡◌, ℕ, ◌+◌, ◌<◌, Bool, List, [], ◌∷◌, ◌++◌, length, get_or, drop, IfOk, Ok, Err, Option, Result, sym, refl, ap, ◌∙◌, subst, append_assoc, MatchResult}
-use Rattle.std.proofs.lemmas.List.{append-nil, at_drop_more}
+use Rattle.std.proofs.Common.{◌≡◌, ℕ, Bool, List, [], ◌∷◌, ◌++◌, IfOk, Ok, Err, Option, Result, sym, refl, subst, append_assoc, MatchResult}
+use Rattle.std.proofs.lemmas.List.{append-nil}
 use Rattle.measures.specs.declared.entry.Entry.{Entry}
 use Rattle.estimating.specs.declared.basis.Question.{Question}
 use Rattle.estimating.specs.declared.basis.Basis.{Basis}
@@ -8,7 +8,7 @@ use Rattle.premise.specs.declared.happening.Happening.{Happening}
 use Rattle.premise.specs.declared.play.Call.{Call}
 use Rattle.premise.specs.declared.play.Call.TheVariants.{Read, Miss, Move}
 use Rattle.premise.specs.declared.file.PremiseFile.{PremiseFile}
-use Rattle.premise.specs.Plays.{called, played, then_rest}
+use Rattle.premise.specs.Plays.{called, played}
 use Rattle.premise.specs.History.{Happens, Lived, start, next, KeepsLaw}
 use Rattle.premise.proofs.Histories.{law_of}
 
@@ -39,15 +39,6 @@ module _ {M J : Type 0} (table : M → List Entry → Question → Option Basis)
       let o = called table higher c f b in
       let first : Lived table higher f b (o.0 ∷ []) o.1 o.2 = next o.0 start (happens c f b) in
       lived_append (played table higher cs o.1 o.2).0 first (lived_played cs o.1 o.2)
-
-  -- one call more
-  pub played_more : (cs : List Call) (i : ℕ) (d : Call) (hs : List Happening) (f : PremiseFile M J) (b : List Entry) (h : Happening) (f' : PremiseFile M J) (b' : List Entry) → i < length cs → (h, f', b') ≡ called table higher (get_or cs i d) f b
-      → joined (hs ++ (h ∷ [])) (played table higher (drop (i + 1) cs) f' b') ≡ joined hs (played table higher (drop i cs) f b)
-  played_more cs i d hs f b h f' b' lt e =
-      let rest = played table higher (drop (i + 1) cs) f' b' in
-      let here : played table higher (drop i cs) f b ≡ played table higher (get_or cs i d ∷ drop (i + 1) cs) f b = at_drop_more (λ xs. played table higher xs f b) cs i d lt in
-      let same : (h ∷ rest.0, rest.1, rest.2) ≡ played table higher (get_or cs i d ∷ drop (i + 1) cs) f b = ap (λ (t : Happening × PremiseFile M J × List Entry). then_rest t.0 (played table higher (drop (i + 1) cs) t.1 t.2)) e in
-      ap (λ (x : List Happening). (x, rest.1, rest.2)) (append_assoc hs (h ∷ []) rest.0) ∙ ap (joined hs) (same ∙ sym here)
 
   -- what was played is a history, and keeps the law
   pub play_lived : (cs : List Call) (f : PremiseFile M J) (b : List Entry) (hs : List Happening) (f' : PremiseFile M J) (b' : List Entry) → (hs, f', b') ≡ played table higher cs f b → Lived table higher f b hs f' b'

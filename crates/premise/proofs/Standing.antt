@@ -19,7 +19,7 @@ use Rattle.estimating.specs.declared.basis.Question.{Question}
 use Rattle.estimating.specs.declared.basis.Basis.{Basis}
 use Rattle.premise.specs.declared.condition.Condition.{Condition}
 use Rattle.premise.specs.declared.condition.Condition.TheVariants.{Fresh, Settled, Waiting, Carrying}
-use Rattle.premise.specs.declared.read.Billing.TheVariants.{Alone, Shared}
+use Rattle.premise.specs.declared.period.Billing.TheVariants.{Alone, Shared}
 use Rattle.premise.specs.declared.file.PremiseFile.{PremiseFile}
 use Rattle.premise.specs.Books.{no_entry, is_estimated, any_estimated, waiting_days}
 use Rattle.premise.specs.Files.{in_use, open_count, is_fresh, has_open, missed, puts_off, open_run, open_sum, closing, putting_off, usage_days_of, after_read, after_miss, after_move, shared_run, corrected_book, as_actual, billing, billed, question, open_on}

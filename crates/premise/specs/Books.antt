@@ -5,6 +5,7 @@
 --   waiting_days n b   the days of a put-off entry at the end of the first n entries, 0 where there is none
 use Rattle.std.specs.Prelude.{ℕ, ◌+◌, ◌-◌, Bool, true, false, cond, ◌&&◌, ◌||◌, List, [], ◌∷◌, nat_le, nat_lt, slice_index_or}
 use Rattle.sharing.specs.Entries.{is_put_off, entry_part}
+use Rattle.std.specs.List.{list_all}
 use Rattle.measures.specs.declared.entry.Entry.{Entry}
 use Rattle.measures.specs.declared.entry.Kind.{Kind}
 use Rattle.measures.specs.declared.entry.Kind.TheVariants.{Actual, TrueUp, Estimated, PutOff, Corrected}
@@ -21,8 +22,7 @@ abbrev pub sound_entry : ℕ → Entry → Bool
 sound_entry t e = nat_le e.days 109 && (nat_le e.usage_days 109 && nat_lt e.kwh t)
 
 abbrev pub sound : ℕ → List Entry → Bool
-sound t [] = true
-sound t (e ∷ es) = sound_entry t e && sound t es
+sound t es = list_all (sound_entry t) es
 
 abbrev pub any_estimated : List Entry → Bool
 any_estimated [] = false

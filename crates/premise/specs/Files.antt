@@ -27,8 +27,8 @@ use Rattle.premise.specs.declared.condition.Condition.{Condition}
 use Rattle.premise.specs.declared.condition.Condition.TheVariants.{Fresh, Settled, Waiting, Carrying}
 use Rattle.premise.specs.declared.event.Event.{Event}
 use Rattle.premise.specs.declared.event.Event.TheVariants.{Read, Miss, Move}
-use Rattle.premise.specs.declared.read.Billing.{Billing}
-use Rattle.premise.specs.declared.read.Billing.TheVariants.{Alone, Shared}
+use Rattle.premise.specs.declared.period.Billing.{Billing}
+use Rattle.premise.specs.declared.period.Billing.TheVariants.{Alone, Shared}
 use Rattle.premise.specs.declared.file.PremiseFile.{PremiseFile}
 use Rattle.premise.specs.Books.{no_entry, sound, any_estimated, corrections, waiting_days}
 

@@ -15,10 +15,7 @@ pub(crate) const MOST_DAYS: u8 = 109;
 pub(crate) fn is_estimated(kind: Kind) -> bool
     ensures { result ≡ is_estimated kind }
 {
-    match kind {
-        Kind::Estimated => true,
-        _ => false,
-    }
+    kind == Kind::Estimated
 }
 
 fn is_sound_entry(turn: u32, e: &Entry) -> bool
@@ -31,12 +28,7 @@ fn is_sound_entry(turn: u32, e: &Entry) -> bool
 pub(crate) fn is_sound(turn: u32, entries: &[Entry]) -> bool
     ensures { result ≡ sound turn entries.now }
 {
-    for e in entries {
-        if !is_sound_entry(turn, e) {
-            return false;
-        }
-    }
-    true
+    entries.iter().all(|e| is_sound_entry(turn, e))
 }
 
 // The kWh of a run of entries.
@@ -64,7 +56,7 @@ pub(crate) struct Tally {
 fn correction(kind: Kind) -> u8
     ensures { result ≡ (if not (is_put_off kind) then 1 else 0) }
 {
-    if is_put_off(kind) { 0 } else { 1 }
+    u8::from(!is_put_off(kind))
 }
 
 pub(crate) fn tallied(run: &[Entry]) -> Tally
@@ -91,8 +83,8 @@ pub(crate) fn waiting_days(count: usize, book: &[Entry]) -> u8
     requires { count ≤ length book.now }
     ensures { result ≡ waiting_days count book.now }
 {
-    if count > 0 && is_put_off(book[count - 1].kind) {
-        return book[count - 1].days;
+    match book[..count].last() {
+        Some(last) if is_put_off(last.kind) => last.days,
+        _ => 0,
     }
-    0
 }

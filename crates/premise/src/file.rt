@@ -1,5 +1,6 @@
 // A premise's file. Each call hands in the book of entries; the file knows where it stands in it.
-ghost use Rattle.std.specs.Prelude.{◌≡◌, ◌+◌, ◌<◌, ◌≤◌, true, length, OnOk};
+ghost use Rattle.std.specs.Prelude.{◌≡◌, ◌+◌, ◌<◌, ◌≤◌, true, length, OnOk, Ok, Err, if◌then◌else◌};
+ghost use Rattle.measures.specs.Refusals.{not_the_book};
 ghost use Rattle.premise.specs.Files.{in_use, is_fresh, Room, entered, settling, fits, open_run, may_close, may_miss, may_read};
 
 use crate::book;
@@ -108,10 +109,7 @@ impl<M, J> PremiseFile<M, J> {
     pub(crate) fn is_fresh(&self) -> bool
         ensures { result ≡ is_fresh self.now.condition }
     {
-        match self.condition {
-            Condition::Fresh => true,
-            _ => false,
-        }
+        matches!(self.condition, Condition::Fresh)
     }
 
     // Whether the book can be the one that the file was opened with.
@@ -124,6 +122,18 @@ impl<M, J> PremiseFile<M, J> {
             return false;
         }
         book::is_sound(self.dial.turn(), &book[0..count])
+    }
+
+    // Refuses a book that cannot be that one.
+    pub(crate) fn check_book(&self, book: &[Entry]) -> Result<(), u8>
+        ensures value { result ≡ (if fits self.now book.now then Ok tt else Err not_the_book) }
+        ensures own { OnOk result (fits self.now book.now ≡ true) }
+        ensures few { OnOk result (length book.now ≤ 255) }
+    {
+        if !self.fits(book) {
+            return Err(refusal::BOOK);
+        }
+        Ok(())
     }
 
     // The open entries of the book.
@@ -156,9 +166,7 @@ impl<M, J> PremiseFile<M, J> {
         ensures value { result ≡ may_miss self.now book.now day }
         ensures few { OnOk result (in_use self.now < 255) }
     {
-        if !self.fits(book) {
-            return Err(refusal::BOOK);
-        }
+        self.check_book(book)?;
         if day > LAST_DAY {
             return Err(refusal::DAY);
         }
@@ -170,9 +178,7 @@ impl<M, J> PremiseFile<M, J> {
         ensures value { result ≡ may_read self.now book.now day register }
         ensures few { OnOk result (in_use self.now < 255) }
     {
-        if !self.fits(book) {
-            return Err(refusal::BOOK);
-        }
+        self.check_book(book)?;
         if day > LAST_DAY {
             return Err(refusal::DAY);
         }

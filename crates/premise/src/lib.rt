@@ -8,6 +8,7 @@ mod event;
 pub mod file;
 pub mod happening;
 mod miss;
-mod opening;
+pub mod opening;
+mod period;
 pub mod play;
 mod read;

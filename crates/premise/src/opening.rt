@@ -17,54 +17,47 @@ use measures::refusal;
 // The most places of a book.
 const MOST_PLACES: usize = 240;
 
+// What a premise is opened with: its rate, the digits of its dial, the day, the register that the dial shows, and the customer.
+#[derive(Clone, Copy, PartialEq, Eq, Debug)]
+pub struct Opening {
+    pub rate: Rate,
+    pub digits: u32,
+    pub day: u32,
+    pub register: u32,
+    pub customer: u32,
+}
+
 impl<M: Drop, J: Drop> PremiseFile<M, J> {
-    // Opens a file on a day with the register that the dial shows, for the book that its entries go into.
+    // Opens a file for the book that its entries go into.
     pub fn open(
         method: M,
         judgement: J,
-        rate: Rate,
-        digits: u32,
-        day: u32,
-        register: u32,
-        customer: u32,
+        opening: &Opening,
         book: &[Entry],
     ) -> Result<PremiseFile<M, J>, u8>
-        ensures answer { result ≡ opens method judgement rate digits day register customer book.now }
+        ensures answer { result ≡ opens method judgement opening.now.rate opening.now.digits opening.now.day opening.now.register opening.now.customer book.now }
         ensures opened { IfOk result (λ f. Opened f book.now) }
     {
-        PremiseFile::open_with(
-            method,
-            judgement,
-            rate,
-            digits,
-            day,
-            register,
-            customer,
-            book.len(),
-        )
+        PremiseFile::open_with(method, judgement, opening, book.len())
     }
 
     // The same for a book of so many places.
     fn open_with(
         method: M,
         judgement: J,
-        rate: Rate,
-        digits: u32,
-        day: u32,
-        register: u32,
-        customer: u32,
+        opening: &Opening,
         places: usize,
     ) -> Result<PremiseFile<M, J>, u8>
-        ensures { result ≡ open_on method judgement rate (dial_of digits) day register customer places }
+        ensures { result ≡ open_on method judgement opening.now.rate (dial_of opening.now.digits) opening.now.day opening.now.register opening.now.customer places }
     {
-        let dial = Dial::of_digits(digits)?;
-        if day > LAST_DAY {
+        let dial = Dial::try_from(opening.digits)?;
+        if opening.day > LAST_DAY {
             return Err(refusal::DAY);
         }
-        if register >= dial.turn() {
+        if opening.register >= dial.turn() {
             return Err(refusal::REGISTER);
         }
-        if customer == 0 {
+        if opening.customer == 0 {
             return Err(refusal::CUSTOMER);
         }
         if places < 1 || places > MOST_PLACES {
@@ -73,14 +66,14 @@ impl<M: Drop, J: Drop> PremiseFile<M, J> {
         Ok(PremiseFile {
             method,
             judgement,
-            rate,
+            rate: opening.rate,
             dial,
             places: places as u8,
             settled: 0,
             condition: Condition::Fresh,
-            day: day as u16,
-            register,
-            customer,
+            day: opening.day as u16,
+            register: opening.register,
+            customer: opening.customer,
         })
     }
 }
@@ -107,9 +100,7 @@ impl<M, J> PremiseFile<M, J> {
     pub fn entries<'a>(&self, book: &'a [Entry]) -> Result<&'a [Entry], u8>
         ensures answer { seen result ≡ used_part self.now book.now }
     {
-        if !self.fits(book) {
-            return Err(refusal::BOOK);
-        }
+        self.check_book(book)?;
         Ok(&book[0..self.in_use()])
     }
 
@@ -117,9 +108,7 @@ impl<M, J> PremiseFile<M, J> {
     pub fn open_run<'a>(&self, book: &'a [Entry]) -> Result<&'a [Entry], u8>
         ensures answer { seen result ≡ open_part self.now book.now }
     {
-        if !self.fits(book) {
-            return Err(refusal::BOOK);
-        }
+        self.check_book(book)?;
         Ok(self.run(book))
     }
 
@@ -127,9 +116,7 @@ impl<M, J> PremiseFile<M, J> {
     pub(crate) fn sum_settled(&self, book: &[Entry]) -> Result<u64, u8>
         ensures { result ≡ settled_sum self.now book.now }
     {
-        if !self.fits(book) {
-            return Err(refusal::BOOK);
-        }
+        self.check_book(book)?;
         Ok(book::sum_kwh(&book[0..self.settled as usize]))
     }
 
@@ -137,9 +124,7 @@ impl<M, J> PremiseFile<M, J> {
     pub fn open_sum(&self, book: &[Entry]) -> Result<u64, u8>
         ensures answer { result ≡ carry_over self.now book.now }
     {
-        if !self.fits(book) {
-            return Err(refusal::BOOK);
-        }
+        self.check_book(book)?;
         Ok(book::sum_kwh(self.run(book)))
     }
 }

@@ -4,12 +4,14 @@ ghost use Rattle.shareout.specs.Months.{kwh_of};
 
 use crate::months;
 use crate::months::Month;
+use desk::fault::Fault;
+use desk::numbers::numbers_of;
+use desk::pieces::lines_in;
 use fields::number::number_of;
 use measures::refusal;
 use sharing::share::{MOST_RECORDS, MOST_WEIGHT};
-use std::alloc::{AllocError, AllocFailed, Global};
-use std::error::Error;
-use std::fmt;
+use std::alloc::Global;
+use thiserror::Error;
 
 // The most bytes that are looked at; the longest good input has fewer.
 pub const MOST_BYTES: usize = 40_000;
@@ -23,89 +25,44 @@ pub struct Job {
 }
 
 // What is wrong with a line of the input.
-#[derive(Clone, Copy, PartialEq, Eq, Debug)]
+#[derive(Clone, Copy, PartialEq, Eq, Debug, Error)]
 pub enum Wrong {
+    #[error("the input has more than 40,000 bytes")]
     Long,
+    #[error("expected digits, spaces and line ends alone")]
     NotText,
+    #[error("expected the dial's digits, its first register and its last register, three numbers with one space between")]
     DialFields,
+    #[error("expected the usage days of one month, a number alone")]
     MonthField,
+    #[error("a dial has 4 to 8 digits (1)")]
     Digits,
+    #[error("a register has no more digits than its dial (3)")]
     Register,
+    #[error("a month has at most 1,000,000 usage days (29)")]
     UsageDays,
+    #[error("there are at most 3,360 months (29)")]
     Months,
+    #[error("the dial went on, and no month has a usage day (28)")]
     NoUsageDays,
 }
 
-impl fmt::Display for Wrong {
-    fn fmt<W: fmt::Write>(&self, f: &mut fmt::Formatter<W>) -> fmt::Result {
-        match self {
-            Wrong::Long => f.write_str("the input has more than 40,000 bytes"),
-            Wrong::NotText => f.write_str("expected digits, spaces and line ends alone"),
-            Wrong::DialFields => f.write_str(
-                "expected the dial's digits, its first register and its last register, three numbers with one space between",
-            ),
-            Wrong::MonthField => f.write_str(
-                "expected the usage days of one month, a number alone",
-            ),
-            Wrong::Digits => f.write_str("a dial has 4 to 8 digits (1)"),
-            Wrong::Register => f.write_str("a register has no more digits than its dial (3)"),
-            Wrong::UsageDays => f.write_str("a month has at most 1,000,000 usage days (29)"),
-            Wrong::Months => f.write_str("there are at most 3,360 months (29)"),
-            Wrong::NoUsageDays => f.write_str(
-                "the dial went on, and no month has a usage day (28)",
-            ),
-        }
-    }
-}
-
-#[derive(Clone, Copy, PartialEq, Eq, Debug)]
-pub enum Fault {
-    Line(usize, Wrong),
-    Memory,
-}
-
-impl fmt::Display for Fault {
-    fn fmt<W: fmt::Write>(&self, f: &mut fmt::Formatter<W>) -> fmt::Result {
-        match self {
-            Fault::Line(line, wrong) => write!(f, "line {line}: {wrong}"),
-            Fault::Memory => f.write_str("there is not enough memory"),
-        }
-    }
-}
-
-impl Error for Fault {}
-
-impl From<AllocError> for Fault {
-    fn from(_e: AllocError) -> Fault {
-        Fault::Memory
-    }
-}
-
-impl<T: Drop> From<AllocFailed<T>> for Fault {
-    fn from(_e: AllocFailed<T>) -> Fault {
-        Fault::Memory
-    }
-}
-
 // The job that the text asks for. The LF at its end may be left out.
-pub fn read_job(heap: Global, text: &[u8]) -> Result<Job, Fault> {
+pub fn read_job(heap: Global, text: &[u8]) -> Result<Job, Fault<Wrong>> {
     if text.len() > MOST_BYTES {
         return Err(Fault::Line(1, Wrong::Long));
     }
-    let text = match std::str::from_utf8(text) {
-        Ok(text) => text,
-        Err(e) => return Err(Fault::Line(line_at(text, e.valid_up_to()), Wrong::NotText)),
-    };
-    let mut lines = text.strip_suffix('\n').unwrap_or(text).split('\n');
-    let Some((digits, from, to)) = dial_line(lines.next().unwrap_or("")) else {
-        return Err(Fault::Line(1, Wrong::DialFields));
-    };
+    if let Err(e) = std::str::from_utf8(text) {
+        return Err(Fault::Line(line_at(text, e.valid_up_to()), Wrong::NotText));
+    }
+    let mut lines = lines_in(text);
+    let [digits, from, to] = numbers_of::<3>(lines.next().unwrap_or(b"")).ok_or(Fault::Line(
+        1,
+        Wrong::DialFields,
+    ))?;
     let mut months = Vec::new(heap);
-    for line in lines {
-        let place = months.len().saturating_add(2);
-        let Some(usage_days) = number_of(line.as_bytes()) else {
-            return Err(Fault::Line(place, Wrong::MonthField));
-        };
+    for (place, line) in (2usize..).zip(lines) {
+        let usage_days = number_of(line).ok_or(Fault::Line(place, Wrong::MonthField))?;
         if usage_days > MOST_WEIGHT {
             return Err(Fault::Line(place, Wrong::UsageDays));
         }
@@ -122,40 +79,24 @@ pub fn read_job(heap: Global, text: &[u8]) -> Result<Job, Fault> {
     })
 }
 
-// The three numbers of the dial's line.
-fn dial_line(line: &str) -> Option<(u32, u32, u32)> {
-    let mut fields = line.split(' ');
-    let digits = number_of(fields.next()?.as_bytes())?;
-    let from = number_of(fields.next()?.as_bytes())?;
-    let to = number_of(fields.next()?.as_bytes())?;
-    match fields.next() {
-        None => Some((digits, from, to)),
-        Some(_) => None,
-    }
-}
-
 // The line on which a byte of the text stands.
 fn line_at(text: &[u8], at: usize) -> usize {
-    let mut line: usize = 1;
-    for b in text.iter().take(at) {
-        if *b == b'\n' {
-            line = line.saturating_add(1);
-        }
-    }
-    line
+    let ends = text.iter().take(at).filter(|b| **b == b'\n').count();
+    ends.saturating_add(1)
 }
 
 impl Job {
     // Shares the advance out over the months, and answers it.
-    pub fn settle(&mut self) -> Result<u32, Fault>
+    pub fn settle(&mut self) -> Result<u32, Fault<Wrong>>
         ensures { IfOk result (λ advance. kwh_of self.new.months.items ≡ advance) }
     {
-        match months::settle(self.digits, self.from, self.to, self.months.as_mut_slice()) {
-            Ok(advance) => Ok(advance),
-            Err(refusal::DIGITS) => Err(Fault::Line(1, Wrong::Digits)),
-            Err(refusal::REGISTER) => Err(Fault::Line(1, Wrong::Register)),
-            Err(refusal::NO_WEIGHT) => Err(Fault::Line(2, Wrong::NoUsageDays)),
-            Err(_) => Err(Fault::Line(2, Wrong::UsageDays)),
-        }
+        months::settle(self.digits, self.from, self.to, self.months.as_mut_slice()).map_err(
+            |number| match number {
+                refusal::DIGITS => Fault::Line(1, Wrong::Digits),
+                refusal::REGISTER => Fault::Line(1, Wrong::Register),
+                refusal::NO_WEIGHT => Fault::Line(2, Wrong::NoUsageDays),
+                _ => Fault::Line(2, Wrong::UsageDays),
+            },
+        )
     }
 }

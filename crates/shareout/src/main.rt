@@ -7,60 +7,40 @@ ghost use Rattle.shareout.specs.Months.{kwh_of};
 mod input;
 mod months;
 
-use input::{Fault, MOST_BYTES};
+use desk::fault::Fault;
+use input::{MOST_BYTES, Wrong};
 use months::Month;
-use std::alloc::Global;
-use std::io::Read;
+use std::alloc::{AllocError, Global};
 use std::process::ExitCode;
 
 // What the program prints for the bytes of its input.
-fn listing(heap: Global, text: &[u8]) -> Result<String, Fault> {
+fn listing(heap: Global, text: &[u8]) -> Result<String, Fault<Wrong>> {
     let mut job = input::read_job(heap, text)?;
     let advance = job.settle()?;
-    written(heap, advance, job.months.as_slice())
+    Ok(written(heap, advance, job.months.as_slice())?)
 }
 
 // The advance, each month's share of it, and what the shares come to.
-fn written(heap: Global, advance: u32, months: &[Month]) -> Result<String, Fault>
+fn written(heap: Global, advance: u32, months: &[Month]) -> Result<String, AllocError>
     requires { kwh_of months.now < 2 ^ 64 }
 {
     let mut text = format!(in heap; "the dial went {advance} kWh\n")?;
-    for (i, month) in months.iter().enumerate() {
-        let place = i.saturating_add(1);
-        let days = month.usage_days;
-        let kwh = month.kwh;
-        text.push_str(format!(in heap; "month {place}: {days} usage days, {kwh} kWh\n")?.as_str())?;
+    for (place, month) in (1usize..).zip(months) {
+        let Month { usage_days, kwh } = *month;
+        writeln!(text, "month {place}: {usage_days} usage days, {kwh} kWh")?;
     }
     let sum = months::sum(months);
-    text.push_str(format!(in heap; "the months come to {sum} kWh\n")?.as_str())?;
+    writeln!(text, "the months come to {sum} kWh")?;
     Ok(text)
 }
 
-fn run(rt: &HostRuntime) -> anyhow::Result<()> {
-    let mut text = Vec::new(rt.alloc());
-    rt.stdin()
-        .take(MOST_BYTES as u64 + 1)
-        .read_to_end(&mut text)?;
-    let listing = listing(rt.alloc(), text.as_slice())?;
-    print!(rt; "{listing}")?;
-    Ok(())
-}
-
-// What is wrong is one line on standard error; where that cannot be written, the status alone tells of it.
 fn main(rt: HostRuntime) -> ExitCode {
-    match run(&rt) {
-        Ok(()) => ExitCode::SUCCESS,
-        Err(e) => {
-            let _ = eprintln!(rt; "{e}");
-            ExitCode::FAILURE
-        }
-    }
+    desk::program::run(&rt, MOST_BYTES, |text| listing(rt.alloc(), text))
 }
 
 #[cfg(test)]
 mod tests {
     use super::*;
-    use crate::input::Wrong;
     use std::process::Abort;
     use std::test::Fail;
 

@@ -1,6 +1,6 @@
 -- The laws of running totals.
-use Rattle.std.proofs.Common.{◌≡◌, ℕ, ◌+◌, ◌*◌, ◌/◌, ◌<◌, ◌≤◌, sym, ap, ◌∙◌, ⊎_elim, le_trans, mul_comm, add-mul, mul-le-mul_left, one-mul, mul-zero, div-mul-le_self, mul-div_cancel, arith}
-use native.Mathlib.Nat.{div-le_of_le-mul, lt-div-mul-add, div-eq_of_lt}
+use Rattle.std.proofs.Common.{◌≡◌, ℕ, ◌+◌, ◌*◌, ◌/◌, ◌<◌, ◌≤◌, sym, ap, ◌∙◌, ⊎_elim, le_trans, add-mul, mul-le-mul_left, one-mul, mul-zero, div-mul-le_self, mul-div_cancel, arith}
+use native.Mathlib.Nat.{lt-div-mul-add, div-eq_of_lt}
 use Rattle.std.proofs.lemmas.Bool.{cond-true, cond-false, eq-eqb, ne_eqb, cases_eq}
 use Rattle.std.proofs.lemmas.Nat.{le-div}
 use Rattle.sharing.specs.Sharing.{running, RoundedDown}
@@ -20,15 +20,6 @@ running_up t w c d h = ⊎_elim
     (λ n.
     let up : t * c / w ≤ t * d / w = le-div (t * c / w) (t * d) w (omega arith) (le_trans (div-mul-le_self (t * c) w) (mul-le-mul_left t h)) in
     omega (arith, running_is t w c n, running_is t w d n))
-    (cases_eq w 0)
-
--- it does not pass the total
-pub running_within : (t w c : ℕ) → c ≤ w → running t w c ≤ t
-running_within t w c h = ⊎_elim
-    (λ e. omega (arith, running_none t w c e))
-    (λ n.
-    let within : t * c / w ≤ t = div-le_of_le-mul w (rw (mul_comm w t) (mul-le-mul_left t h)) in
-    omega (arith, running_is t w c n))
     (cases_eq w 0)
 
 -- it begins at 0

@@ -25,12 +25,6 @@ module _ {R : Type 0} (part : R → Bool) (figure : R → ℕ) where
   light_no : (x : R) (xs : List R) → part x ≡ false → light part figure (x ∷ xs) ≡ light part figure xs
   light_no x xs p = ap (λ b. b && light part figure xs) (cond-false _ _ _ p)
 
-  pub light_left_yes : (xs : List R) (i : ℕ) (d : R) → i < length xs → part (get_or xs i d) ≡ true → light part figure (drop i xs) ≡ (leb (figure (get_or xs i d)) 1000000 && light part figure (drop (i + 1) xs))
-  light_left_yes xs i d h p = at_drop_more (light part figure) xs i d h ∙ light_yes (get_or xs i d) (drop (i + 1) xs) p
-
-  pub light_left_no : (xs : List R) (i : ℕ) (d : R) → i < length xs → part (get_or xs i d) ≡ false → light part figure (drop i xs) ≡ light part figure (drop (i + 1) xs)
-  light_left_no xs i d h p = at_drop_more (light part figure) xs i d h ∙ light_no (get_or xs i d) (drop (i + 1) xs) p
-
   -- weights within their limit sum to no more than a million each
   pub light_sum : (xs : List R) → light part figure xs ≡ true → sum_of part figure xs ≤ 1000000 * length xs
   light_sum [] l = omega arith

@@ -10,10 +10,7 @@ use measures::entry::{Entry, Kind};
 pub fn is_put_off(kind: Kind) -> bool
     ensures { result ≡ is_put_off kind }
 {
-    match kind {
-        Kind::PutOff => true,
-        _ => false,
-    }
+    kind == Kind::PutOff
 }
 
 // An entry takes its part of an advance by its usage days, and is corrected; a put-off entry takes none.

@@ -24,9 +24,7 @@ pub fn share_out<R: Shares>(total: u32, records: &mut [R]) -> Result<(), u8>
     if total > MOST_TOTAL || records.len() > MOST_RECORDS {
         return Err(refusal::SHARING_LIMITS);
     }
-    let Some(all) = weigh(records) else {
-        return Err(refusal::SHARING_LIMITS);
-    };
+    let all = weigh(records).ok_or(refusal::SHARING_LIMITS)?;
     if all == 0 && total > 0 {
         return Err(refusal::NO_WEIGHT);
     }

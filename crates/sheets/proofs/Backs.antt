@@ -14,7 +14,7 @@ use Rattle.fields.proofs.Pieces.{Free, EachFree, first_piece_of, piece_front, pa
 use Rattle.fields.proofs.Texts.{told, free_decimal}
 use Rattle.sheets.specs.declared.fault.SectionFault.TheVariants.{Count, Missing, Line}
 use Rattle.sheets.specs.declared.fault.SheetFault.TheVariants.{Premise, Calls, Rest}
-use Rattle.sheets.specs.declared.line.Opening.{Opening}
+use Rattle.premise.specs.declared.opening.Opening.{Opening}
 use Rattle.sheets.specs.Lines.{line_fields, then, carried, or_fault, call_at, opening_at, count_of}
 use Rattle.sheets.specs.Sections.{line_at, within, count_at, premise_name, calls_name, premise_section, next_call, calls_of, calls_section, nothing_left, sheet_of}
 use Rattle.sheets.specs.Texts.{opening_fields, call_fields, spaced, written, sheet_text, CallFits, CallsFit, OpeningFits, Fits}
@@ -31,27 +31,17 @@ free_from d (b ∷ bs) e =
     (λ w f. absurd (both_ways false refl f))
     (λ w f. (w, free_from d bs f)) e
 
-spaceless : (r : Rate) → free 32 (name_of r) ≡ true
-spaceless E12 = refl
-spaceless Et1 = refl
-spaceless Et2 = refl
-spaceless EtSp = refl
-spaceless Ect1R = refl
-spaceless Ect2 = refl
-spaceless NrS = refl
-spaceless NrL = refl
-spaceless Other = refl
-
-endless : (r : Rate) → free 10 (name_of r) ≡ true
-endless E12 = refl
-endless Et1 = refl
-endless Et2 = refl
-endless EtSp = refl
-endless Ect1R = refl
-endless Ect2 = refl
-endless NrS = refl
-endless NrL = refl
-endless Other = refl
+-- no rate's name has a space or a line's end
+no_separator : (r : Rate) → (free 32 (name_of r) ≡ true) × (free 10 (name_of r) ≡ true)
+no_separator E12 = (refl, refl)
+no_separator Et1 = (refl, refl)
+no_separator Et2 = (refl, refl)
+no_separator EtSp = (refl, refl)
+no_separator Ect1R = (refl, refl)
+no_separator Ect2 = (refl, refl)
+no_separator NrS = (refl, refl)
+no_separator NrL = (refl, refl)
+no_separator Other = (refl, refl)
 
 number_back : (n : ℕ) → n < 2 ^ 32 → number_of (decimal n) ≡ Some n
 number_back n h = sym (told (decimal n) (Some n) (refl, h))
@@ -78,7 +68,7 @@ module _ (n : ℕ) (o : Opening) (f : OpeningFits o) where
 
   opening_back : opening_at n (line_fields (spaced (opening_fields o))) ≡ Ok o
   opening_back =
-      let parts = parted 32 (name_of o.rate) (decimal o.digits ∷ decimal o.day ∷ decimal o.register ∷ decimal o.customer ∷ []) (opening_free 32 (omega arith) (spaceless o.rate)) in
+      let parts = parted 32 (name_of o.rate) (decimal o.digits ∷ decimal o.day ∷ decimal o.register ∷ decimal o.customer ∷ []) (opening_free 32 (omega arith) (no_separator o.rate).0) in
       let a = knows o.rate in
       let b = number_back o.digits f.digits in
       let c = number_back o.day f.day in
@@ -137,7 +127,7 @@ module _ (o : Opening) (cs : List Call) (f : Fits o cs) where
       ∙ ap (λ r. then r (λ _. then (line_at 2 rest) (λ u. then (carried Line (opening_at 2 (line_fields u.0))) (λ p. Ok (p, u.1)))))
       (count_back 1 1 1 1 premise_name (free_from 32 premise_name refl) (omega arith) (omega arith) (omega arith))
       ∙ ap (λ r. then r (λ u. then (carried Line (opening_at 2 (line_fields u.0))) (λ p. Ok (p, u.1))))
-      (line_back 2 (opening_fields o) calls_lines (opening_free 2 o f.opening 10 (omega arith) (endless o.rate)))
+      (line_back 2 (opening_fields o) calls_lines (opening_free 2 o f.opening 10 (omega arith) (no_separator o.rate).1))
       ∙ ap (λ r. then (carried Line r) (λ p. Ok (p, calls))) (opening_back 2 o f.opening)
 
   calls_section_back : calls_section 3 (pieces 10 (written calls_lines)) ≡ Ok (cs, [] ∷ [])

@@ -10,28 +10,23 @@ use Rattle.premise.specs.declared.play.Call.TheVariants.{Read, Miss, Move}
 use Rattle.fields.specs.Numbers.{number_of}
 use Rattle.fields.specs.Pieces.{pieces, first_piece, joined_by}
 use Rattle.fields.specs.Rates.{rate_of}
-use Rattle.fields.proofs.Decisions.{some_same, none_some}
+use Rattle.std.proofs.lemmas.Option.{same_Some, none-some}
 use Rattle.fields.proofs.Named.{names}
 use Rattle.fields.proofs.Pieces.{rejoined}
 use Rattle.fields.proofs.Texts.{tells}
 use Rattle.sheets.specs.declared.fault.LineFault.TheVariants.{Form, Field}
 use Rattle.sheets.specs.declared.fault.SectionFault.TheVariants.{Count, Missing, Line}
 use Rattle.sheets.specs.declared.fault.SheetFault.TheVariants.{Long, Premise, Calls, Rest}
-use Rattle.sheets.specs.declared.line.Opening.{Opening}
+use Rattle.premise.specs.declared.opening.Opening.{Opening}
 use Rattle.sheets.specs.Lines.{line_fields, with, then, carried, or_fault, one_of, two_of, Said, read, miss, move, said_by, call_of, premise_of, number_at, rate_at, call_told, call_at, opening_told, opening_at, count_of, fault_at}
 use Rattle.sheets.specs.Sections.{line_at, within, count_at, premise_name, calls_name, premise_section, next_call, calls_of, calls_section, nothing_left, sheet_of}
 use Rattle.sheets.specs.Texts.{opening_fields, call_fields, sheet_lines, spaced, written, sheet_text, CallFits, CallsFit, OpeningFits, Fits}
-
-pub more_fields : (t : List ℕ × List (List ℕ)) (fs : List (List ℕ)) → Some t ≡ first_piece fs → None ≡ one_of fs
-more_fields t [] e = refl
-more_fields t (f ∷ []) e = absurd (none_some t (sym e))
-more_fields t (f ∷ g ∷ fs) e = refl
 
 -- what came before
 module _ {A B : Type 0} where
   with_some : (x : Option A) (f : A → Option B) (b : B) → with x f ≡ Some b → (a : A) × (x ≡ Some a) × (f a ≡ Some b)
   with_some (Some a) f b e = (a, refl, e)
-  with_some None f b e = absurd (none_some b e)
+  with_some None f b e = absurd (none-some b e)
 
 module _ {A E : Type 0} where
   abbrev ok_or : A → Result A E → A
@@ -60,14 +55,14 @@ module _ {A E F : Type 0} where
 
 -- fields
 first_is : (fs : List (List ℕ)) (t : List ℕ × List (List ℕ)) → first_piece fs ≡ Some t → fs ≡ t.0 ∷ t.1
-first_is [] t e = absurd (none_some t e)
-first_is (f ∷ []) t e = absurd (none_some t e)
-first_is (f ∷ g ∷ fs) t e = ap (λ (u : List ℕ × List (List ℕ)). u.0 ∷ u.1) (some_same _ t e)
+first_is [] t e = absurd (none-some t e)
+first_is (f ∷ []) t e = absurd (none-some t e)
+first_is (f ∷ g ∷ fs) t e = ap (λ (u : List ℕ × List (List ℕ)). u.0 ∷ u.1) (same_Some _ t e)
 
 one_is : (fs : List (List ℕ)) (f : List ℕ) → one_of fs ≡ Some f → fs ≡ f ∷ []
-one_is [] f e = absurd (none_some f e)
-one_is (g ∷ []) f e = ap (λ (l : List ℕ). l ∷ []) (some_same g f e)
-one_is (g ∷ h ∷ fs) f e = absurd (none_some f e)
+one_is [] f e = absurd (none-some f e)
+one_is (g ∷ []) f e = ap (λ (l : List ℕ). l ∷ []) (same_Some g f e)
+one_is (g ∷ h ∷ fs) f e = absurd (none-some f e)
 
 two_is : (fs : List (List ℕ)) (t : List ℕ × List ℕ) → two_of fs ≡ Some t → fs ≡ t.0 ∷ t.1 ∷ []
 two_is fs t e =
@@ -75,7 +70,7 @@ two_is fs t e =
     let b = with_some (one_of a.0.1) (λ b. Some (a.0.0, b)) t a.2 in
     first_is fs a.0 a.1
     ∙ ap (λ (l : List (List ℕ)). a.0.0 ∷ l) (one_is a.0.1 b.0 b.1)
-    ∙ ap (λ (u : List ℕ × List ℕ). u.0 ∷ u.1 ∷ []) (some_same _ t b.2)
+    ∙ ap (λ (u : List ℕ × List ℕ). u.0 ∷ u.1 ∷ []) (same_Some _ t b.2)
 
 -- a field that tells a number is its text
 module _ (n k : ℕ) (f : List ℕ) (m : ℕ) (e : number_at n k f ≡ Ok m) where
@@ -102,16 +97,16 @@ said_is b fs s e =
     cond_both (eqb b 82) (with (two_of fs) (λ t. Some (read t.0 t.1))) _ P
     (λ w g.
     let t = with_some (two_of fs) (λ t. Some (read t.0 t.1)) s g in
-    (λ i. (eqb-true b 82 w i ∷ []) ∷ two_is fs t.0 t.1 i) ∙ ap said_fields (some_same _ s t.2))
+    (λ i. (eqb-true b 82 w i ∷ []) ∷ two_is fs t.0 t.1 i) ∙ ap said_fields (same_Some _ s t.2))
     (λ _. cond_both (eqb b 77) (with (one_of fs) (λ d. Some (miss d))) _ P
     (λ w g.
     let t = with_some (one_of fs) (λ d. Some (miss d)) s g in
-    (λ i. (eqb-true b 77 w i ∷ []) ∷ one_is fs t.0 t.1 i) ∙ ap said_fields (some_same _ s t.2))
+    (λ i. (eqb-true b 77 w i ∷ []) ∷ one_is fs t.0 t.1 i) ∙ ap said_fields (same_Some _ s t.2))
     (λ _. cond_both (eqb b 67) (with (one_of fs) (λ d. Some (move d))) None P
     (λ w g.
     let t = with_some (one_of fs) (λ d. Some (move d)) s g in
-    (λ i. (eqb-true b 67 w i ∷ []) ∷ one_is fs t.0 t.1 i) ∙ ap said_fields (some_same _ s t.2))
-    (λ _ g. absurd (none_some s g)))) e
+    (λ i. (eqb-true b 67 w i ∷ []) ∷ one_is fs t.0 t.1 i) ∙ ap said_fields (same_Some _ s t.2))
+    (λ _ g. absurd (none-some s g)))) e
 
 call_of_is : (fs : List (List ℕ)) (s : Said) → call_of fs ≡ Some s → fs ≡ said_fields s
 call_of_is fs s e =
@@ -122,7 +117,7 @@ call_of_is fs s e =
     first_is fs t.0 t.1
     ∙ cond_both (eqb (length l) 1) (said_by (get_or l 0 0) rest) None P
     (λ w g. ap (λ (x : List ℕ). x ∷ rest) (letter_is l (eqb-true (length l) 1 w)) ∙ said_is (get_or l 0 0) rest s g)
-    (λ w g. absurd (none_some s g)) t.2
+    (λ w g. absurd (none-some s g)) t.2
 
 -- the fields are those of the call, and its numbers fit
 abbrev OfCall : List (List ℕ) → Call → Type 0
@@ -167,7 +162,7 @@ premise_is fs t e =
     ∙ ap (λ (l : List (List ℕ)). a.0.0 ∷ l) (first_is a.0.1 b.0 b.1)
     ∙ ap (λ (l : List (List ℕ)). a.0.0 ∷ b.0.0 ∷ l) (first_is b.0.1 c.0 c.1)
     ∙ ap (λ (l : List (List ℕ)). a.0.0 ∷ b.0.0 ∷ c.0.0 ∷ l) (two_is c.0.1 d.0 d.1)
-    ∙ ap five (some_same _ t d.2)
+    ∙ ap five (same_Some _ t d.2)
 
 abbrev OfOpening : List (List ℕ) → Opening → Type 0
 OfOpening fs o = (fs ≡ opening_fields o) × OpeningFits o
@@ -208,9 +203,9 @@ within_is : (low high : ℕ) (x : Option ℕ) (k : ℕ) → within low high x �
 within_is low high (Some m) k e =
     let P : Option ℕ → Type 0 = λ o. o ≡ Some k → (Some m ≡ Some k) × (low ≤ k) × (k ≤ high) in
     cond_both (leb low m && leb m high) (Some m) None P
-    (λ w g. let s = some_same m k g in (g, omega (arith, s, leb-true low m (and_parts _ _ w).0), omega (arith, s, leb-true m high (and_parts _ _ w).1)))
-    (λ w g. absurd (none_some k g)) e
-within_is low high None k e = absurd (none_some k e)
+    (λ w g. let s = same_Some m k g in (g, omega (arith, s, leb-true low m (and_parts _ _ w).0), omega (arith, s, leb-true m high (and_parts _ _ w).1)))
+    (λ w g. absurd (none-some k g)) e
+within_is low high None k e = absurd (none-some k e)
 
 count_is : (n low high : ℕ) (name l : List ℕ) (k : ℕ) → count_at n name low high l ≡ Ok k → (l ≡ spaced (decimal k ∷ name ∷ [])) × (low ≤ k) × (k ≤ high)
 count_is n low high name l k e =
@@ -221,7 +216,7 @@ count_is n low high name l k e =
           (λ s g.
           line_is l _ (two_is (line_fields l) t.0 t.1)
           ∙ (λ i. spaced ((tells t.0.0 (Some k) (sym g)).0 i ∷ (bytes_eq-Decides t.0.1 name).0 s i ∷ [])))
-          (λ s g. absurd (none_some k g)) t.2,
+          (λ s g. absurd (none-some k g)) t.2,
       w.1,
       w.2,
     )

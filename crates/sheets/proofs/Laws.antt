@@ -4,7 +4,7 @@ use Rattle.premise.specs.declared.play.Call.{Call}
 use Rattle.sheets.specs.declared.fault.SectionFault.TheVariants.{Memory}
 use Rattle.sheets.specs.declared.fault.SheetFault.{SheetFault}
 use Rattle.sheets.specs.declared.fault.SheetFault.TheVariants.{Calls}
-use Rattle.sheets.specs.declared.line.Opening.{Opening}
+use Rattle.premise.specs.declared.opening.Opening.{Opening}
 use Rattle.sheets.specs.declared.sheet.Sheet.{Sheet}
 use Rattle.sheets.specs.Sections.{SheetRead, SheetRefused, sheet_of}
 use Rattle.sheets.specs.Texts.{TextOf, NoTwoAlike}

@@ -1,16 +1,19 @@
 -- A whole sheet from its sections.
-use Rattle.std.proofs.Common.{◌≡◌, ℕ, ◌+◌, ◌<◌, ◌≤◌, true, false, cond, eqb, List, [], ◌∷◌, length, drop, Ok, Err, Result, sym, refl, ap, ◌∙◌, arith, length-drop}
+use Rattle.std.proofs.Common.{◌≡◌, ℕ, ◌+◌, ◌<◌, ◌≤◌, true, false, cond, eqb, List, [], ◌∷◌, length, drop, Ok, Err, Result, MatchResult, sym, refl, ap, ◌∙◌, inl, inr, ⊎_elim, arith, length-drop}
 use Rattle.std.proofs.lemmas.List.{at_drop_all}
-use Rattle.std.proofs.lemmas.Bool.{cond-true, cond-false, cond_both, le-ltb}
+use Rattle.std.proofs.lemmas.Bool.{cond-true, cond-false, cond_both, cases_eq, eq-eqb, ne_eqb, le-ltb}
+use Rattle.std.proofs.lemmas.Result.{err_from_is_err_and}
+use Rattle.std.specs.Result.{IsErrAnd}
 use Rattle.premise.specs.declared.play.Call.{Call}
-use Rattle.fields.specs.Pieces.{pieces, onto_first}
+use Rattle.std.specs.List.{onto_first}
+use Rattle.fields.specs.Pieces.{pieces}
 use Rattle.sheets.specs.declared.fault.SectionFault.{SectionFault}
 use Rattle.sheets.specs.declared.fault.SheetFault.{SheetFault}
 use Rattle.sheets.specs.declared.fault.SheetFault.TheVariants.{Premise, Calls, Rest}
-use Rattle.sheets.specs.declared.line.Opening.{Opening}
-use Rattle.sheets.specs.declared.place.Place.{Place}
+use Rattle.premise.specs.declared.opening.Opening.{Opening}
 use Rattle.sheets.specs.Lines.{then, carried}
-use Rattle.sheets.specs.Sections.{lines_from, premise_section, calls_section, nothing_left, sheet_of}
+use Rattle.sheets.proofs.Forms.{err_ok}
+use Rattle.sheets.specs.Sections.{premise_section, calls_section, nothing_left, sheet_of, OrMemory, SheetRefused}
 
 behind_onto : (b : ℕ) (ps : List (List ℕ)) → nothing_left ([] ∷ onto_first b ps) ≡ false
 behind_onto b [] = refl
@@ -28,31 +31,50 @@ left_some : (c : ℕ) (bs : List ℕ) → 0 < length bs → nothing_left (pieces
 left_some c [] h = absurd (omega (arith, h))
 left_some c (b ∷ bs) h = cond_both (eqb b c) ([] ∷ pieces c bs) (onto_first b (pieces c bs)) (λ ps. nothing_left ps ≡ false) (λ e. behind c bs) (λ e. first_onto b (pieces c bs))
 
-module _ (sheet : List ℕ) (p : Place) where
-  pub bytes_left : p.at < length sheet → nothing_left (lines_from sheet p) ≡ false
-  bytes_left h = left_some 10 (drop p.at sheet) (omega (arith, h, length-drop p.at sheet))
+-- nothing is left exactly at the end
+pub at_end_is : (sheet : List ℕ) (at : ℕ) → at ≤ length sheet → eqb at (length sheet) ≡ nothing_left (pieces 10 (drop at sheet))
+at_end_is sheet at h = ⊎_elim
+    (λ e. eq-eqb at (length sheet) e ∙ sym (at_drop_all (λ bs. nothing_left (pieces 10 bs)) sheet at (omega (arith, e))))
+    (λ n. ne_eqb at (length sheet) n ∙ sym (left_some 10 (drop at sheet) (omega (arith, h, n, length-drop at sheet))))
+    (cases_eq at (length sheet))
 
-  pub none_left : length sheet ≤ p.at → nothing_left (lines_from sheet p) ≡ true
-  none_left h = at_drop_all (λ bs. nothing_left (pieces 10 bs)) sheet p.at h
+-- what a call answered, from what it was told as above it
+module _ {A E F : Type 0} (V : E → F) where
+  abbrev pub Told : Result A F → Result A E → Type 0
+  Told q r = MatchResult r (λ a. q ≡ Ok a) (λ e. IsErrAnd q (λ f. f ≡ V e))
 
--- a sheet whose premise was read
-module _ (bs : List ℕ) (o : Opening) (ls : List (List ℕ)) (n : ℕ) (small : length bs ≤ 8192) (read : Ok (o, ls) ≡ premise_section 1 (pieces 10 bs)) (two : n ≡ 2) where
-  abbrev finish : Result (List Call × List (List ℕ)) SectionFault → Result (Opening × List Call) SheetFault
-  finish r = then (carried Calls r) (λ u. cond (nothing_left u.1) (Ok (o, u.0)) (Err Rest))
+  pub told_ok : (q : Result A F) (r : Result A E) (a : A) → Told q r → q ≡ Ok a → r ≡ Ok a
+  told_ok q (Ok b) a t e = let s : b ≡ a = cc in ap Ok s
+  told_ok q (Err x) a t e = let p = err_from_is_err_and q t in absurd (err_ok p.0 a (sym p.1 ∙ e))
 
-  sheet_is : finish (calls_section (n + 1) ls) ≡ sheet_of bs
-  sheet_is =
-      let three : n + 1 ≡ 3 = omega (arith, two) in
-      ap (λ k. finish (calls_section k ls)) three
-      ∙ ap (λ r. then (carried Premise r) (λ t. then (carried Calls (calls_section 3 t.1)) (λ u. cond (nothing_left u.1) (Ok (t.0, u.0)) (Err Rest)))) read
-      ∙ sym (cond-false _ _ _ (le-ltb 8192 (length bs) small))
+  pub told_err : (q : Result A F) (r : Result A E) (f : F) → Told q r → q ≡ Err f → (e : E) × (f ≡ V e) × (r ≡ Err e)
+  told_err q (Ok b) f t e = absurd (err_ok f b (sym e ∙ t))
+  told_err q (Err x) f t e = let p = err_from_is_err_and q t in (x, cc, refl)
 
-  pub calls_fault : (f : SectionFault) → Err f ≡ calls_section (n + 1) ls → Err (Calls f) ≡ sheet_of bs
-  calls_fault f e = ap finish e ∙ sheet_is
+-- a sheet that is not too long, by its sections
+module _ (bs : List ℕ) (small : length bs ≤ 8192) where
+  abbrev finish : Opening → Result (List Call × List (List ℕ)) SectionFault → Result (Opening × List Call) SheetFault
+  finish o r = then (carried Calls r) (λ u. cond (nothing_left u.1) (Ok (o, u.0)) (Err Rest))
 
-  module _ (cs : List Call) (rest : List (List ℕ)) (called : Ok (cs, rest) ≡ calls_section (n + 1) ls) where
-    pub sheet_rest : nothing_left rest ≡ false → Err Rest ≡ sheet_of bs
-    sheet_rest e = sym (cond-false _ (Ok (o, cs)) _ e) ∙ ap finish called ∙ sheet_is
+  abbrev from_premise : Result (Opening × List (List ℕ)) SectionFault → Result (Opening × List Call) SheetFault
+  from_premise r = then (carried Premise r) (λ t. finish t.0 (calls_section 3 t.1))
 
-    pub sheet_whole : nothing_left rest ≡ true → Ok (o, cs) ≡ sheet_of bs
-    sheet_whole e = sym (cond-true _ _ (Err Rest) e) ∙ ap finish called ∙ sheet_is
+  sheet_is : from_premise (premise_section 1 (pieces 10 bs)) ≡ sheet_of bs
+  sheet_is = sym (cond-false _ _ _ (le-ltb 8192 (length bs) small))
+
+  pub premise_fault : (f : SectionFault) → Err f ≡ premise_section 1 (pieces 10 bs) → Err (Premise f) ≡ sheet_of bs
+  premise_fault f e = ap from_premise e ∙ sheet_is
+
+  module _ (o : Opening) (ls : List (List ℕ)) (n : ℕ) (read : (Ok (o, ls) ≡ premise_section 1 (pieces 10 bs)) × (n ≡ 2)) where
+    calls_are : finish o (calls_section (n + 1) ls) ≡ sheet_of bs
+    calls_are = ap (λ k. finish o (calls_section (k + 1) ls)) read.1 ∙ ap from_premise read.0 ∙ sheet_is
+
+    pub calls_fault : (f : SectionFault) → OrMemory (calls_section (n + 1) ls) f → SheetRefused bs (Calls f)
+    calls_fault f h = ⊎_elim (λ m. inl (ap Calls m)) (λ e. inr (ap (finish o) e ∙ calls_are)) h
+
+    module _ (cs : List Call) (rest : List (List ℕ)) (called : Ok (cs, rest) ≡ calls_section (n + 1) ls) where
+      pub sheet_rest : nothing_left rest ≡ false → Err Rest ≡ sheet_of bs
+      sheet_rest e = sym (cond-false _ (Ok (o, cs)) _ e) ∙ ap (finish o) called ∙ calls_are
+
+      pub sheet_whole : nothing_left rest ≡ true → Ok (o, cs) ≡ sheet_of bs
+      sheet_whole e = sym (cond-true _ _ (Err Rest) e) ∙ ap (finish o) called ∙ calls_are

@@ -2,3 +2,4 @@ pub mod Lines
 pub mod Notices
 pub mod Sections
 pub mod Texts
+pub mod Places

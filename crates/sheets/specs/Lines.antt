@@ -23,7 +23,7 @@ use Rattle.sheets.specs.declared.fault.LineFault.TheVariants.{Form, Field}
 use Rattle.sheets.specs.declared.line.CallLine.{CallLine}
 use Rattle.sheets.specs.declared.line.CallLine.TheVariants as told
 use Rattle.sheets.specs.declared.line.PremiseLine.{PremiseLine}
-use Rattle.sheets.specs.declared.line.Opening.{Opening}
+use Rattle.premise.specs.declared.opening.Opening.{Opening}
 
 abbrev pub line_fields : List ℕ → List (List ℕ)
 line_fields l = pieces 32 l

@@ -1,36 +1,31 @@
 -- The sections of a sheet, line by line.
---   lines_from sheet p     the lines from the place p on, with what stands behind the last line end
+--   lines_left r           the lines that the reader r has still to read, with what stands behind the last line end
 --   line_at n ls           the next line, which is the line n, and those behind it; a line without its end is missing
 --   count_at n .. l        the count on the line n, before a section's name and within its bounds
 --   premise_section n ls   the opening, and the lines behind its section, whose count line is the line n
 --   calls_section n ls     the calls, and the lines behind their section, whose count line is the line n
 --   sheet_of bs            the opening and the calls of a whole sheet
-use Rattle.std.specs.Prelude.{◌≡◌, ℕ, zero, suc, ◌+◌, ◌≤◌, Bool, true, false, cond, ◌&&◌, ◌⊎◌, List, [], ◌∷◌, length, drop, Some, None, Ok, Err, codes, Option, Result, nat_le, nat_lt}
-use Rattle.std.specs.Borrow.{Bor}
+use Rattle.std.specs.Prelude.{◌≡◌, ℕ, zero, suc, ◌+◌, Bool, true, false, cond, ◌&&◌, ◌⊎◌, List, [], ◌∷◌, length, drop, Some, None, Ok, Err, codes, Option, Result, MatchResult, nat_le, nat_lt}
 use Rattle.premise.specs.declared.play.Call.{Call}
 use Rattle.fields.specs.Pieces.{pieces, first_piece}
 use Rattle.sheets.specs.declared.fault.SectionFault.{SectionFault}
 use Rattle.sheets.specs.declared.fault.SectionFault.TheVariants.{Count, Missing, Line, Memory}
 use Rattle.sheets.specs.declared.fault.SheetFault.{SheetFault}
 use Rattle.sheets.specs.declared.fault.SheetFault.TheVariants.{Long, Premise, Calls, Rest}
-use Rattle.sheets.specs.declared.line.Opening.{Opening}
-use Rattle.sheets.specs.declared.place.Place.{Place}
+use Rattle.premise.specs.declared.opening.Opening.{Opening}
+use Rattle.sheets.specs.declared.line.Line as text
+use Rattle.sheets.specs.declared.reader.Reader.{Reader}
 use Rattle.sheets.specs.Lines.{line_fields, then, carried, or_fault, call_at, opening_at, count_of}
 
-abbrev pub lines_from : List ℕ → Place → List (List ℕ)
-lines_from sheet p = pieces 10 (drop p.at sheet)
-
--- a place that was come to by reading a sheet that is not too long
-pub record Stands (sheet : List ℕ) (p : Place) : Type 0 where
-  pub in_sheet : p.at ≤ length sheet
-  pub lines_read : p.line ≤ p.at
-  pub not_long : length sheet ≤ 8192
+abbrev pub lines_left : Reader → List (List ℕ)
+lines_left r = pieces 10 (drop r.place.at r.sheet.now)
 
 abbrev pub line_at : ℕ → List (List ℕ) → Result (List ℕ × List (List ℕ)) SectionFault
 line_at n ls = or_fault (Missing n) (first_piece ls)
 
-abbrev pub line_held : {F : Type 0} → Result (Bor (List ℕ)) F → Result (List ℕ) F
-line_held (Ok r) = Ok r.now
+-- the bytes of a line that was read
+abbrev pub line_held : {F : Type 0} → Result text.Line F → Result (List ℕ) F
+line_held (Ok l) = Ok l.text.now
 line_held (Err e) = Err e
 
 abbrev pub within : ℕ → ℕ → Option ℕ → Option ℕ
@@ -89,18 +84,17 @@ sheet_of bs =
     then (carried Calls (calls_section 3 t.1)) (λ u.
     cond (nothing_left u.1) (Ok (t.0, u.0)) (Err Rest))))
 
--- reading that came to the place p found what the section says
-abbrev pub ReadTo : {A F : Type 0} → List ℕ → Place → Result (A × List (List ℕ)) F → A → Type 0
-ReadTo sheet p expected a = (Ok (a, lines_from sheet p) ≡ expected) × Stands sheet p
+-- reading that left the reader as r found what the section says
+abbrev pub ReadTo : {A F : Type 0} → Reader → Result (A × List (List ℕ)) F → A → Type 0
+ReadTo r expected a = Ok (a, lines_left r) ≡ expected
 
 -- reading that ended by a fault found the section's, or had no memory
 abbrev pub OrMemory : {A : Type 0} → Result A SectionFault → SectionFault → Type 0
 OrMemory expected e = (e ≡ Memory) ⊎ (Err e ≡ expected)
 
 -- reading that took n lines, or ended by a fault, did as the section says
-abbrev pub SectionRead : {A F : Type 0} → List ℕ → Place → ℕ → Result (A × List (List ℕ)) F → Result A F → Type 0
-SectionRead sheet p n expected (Ok a) = ReadTo sheet p expected a × (p.line ≡ n)
-SectionRead sheet p n expected (Err e) = Err e ≡ expected
+abbrev pub SectionRead : {A F : Type 0} → Reader → ℕ → Result (A × List (List ℕ)) F → Result A F → Type 0
+SectionRead r n expected result = MatchResult result (λ a. ReadTo r expected a × (r.place.line ≡ n)) (λ e. Err e ≡ expected)
 
 -- a whole sheet was read as the rules say, or there was no memory for its calls
 abbrev pub SheetRead : List ℕ → Opening → List Call → Type 0
@@ -110,6 +104,6 @@ abbrev pub SheetRefused : List ℕ → SheetFault → Type 0
 SheetRefused bs e = (e ≡ Calls Memory) ⊎ (Err e ≡ sheet_of bs)
 
 -- a refusal puts the place back
-abbrev pub Back : {A F : Type 0} → Result A F → Place → Place → Type 0
+abbrev pub Back : {A F : Type 0} → Result A F → Reader → Reader → Type 0
 Back (Ok _) before after = Unit {0}
 Back (Err _) before after = after ≡ before

@@ -10,7 +10,7 @@ use Rattle.measures.specs.Rate.{name_of}
 use Rattle.premise.specs.declared.play.Call.{Call}
 use Rattle.premise.specs.declared.play.Call.TheVariants.{Read, Miss, Move}
 use Rattle.fields.specs.Pieces.{joined_by}
-use Rattle.sheets.specs.declared.line.Opening.{Opening}
+use Rattle.premise.specs.declared.opening.Opening.{Opening}
 use Rattle.sheets.specs.Sections.{premise_name, calls_name}
 
 abbrev pub opening_fields : Opening → List (List ℕ)

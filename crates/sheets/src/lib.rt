@@ -4,6 +4,6 @@
 pub mod fault;
 pub mod line;
 pub mod notice;
-mod place;
+mod reader;
 mod section;
 pub mod sheet;

@@ -1,25 +1,22 @@
 // The lines of a sheet, with their fields as parts of it.
 ghost use Rattle.std.specs.Prelude.{◌≡◌, Some, None};
-ghost use Rattle.sheets.specs.Lines.{line_fields, one_of, two_of, call_of, call_line_held, premise_of, premise_line_held, number_at, rate_at, call_at, opening_at, count_of, field_held, fields_held};
+ghost use Rattle.sheets.specs.Lines.{line_fields, one_of, two_of, call_of, call_line_held, premise_of, premise_line_held, count_of, field_held, fields_held};
 
-use crate::fault::{FieldFault, LineFault};
+use crate::fault::{FieldFault, LineFault, SectionFault};
 use fields::cut::cut;
 use fields::number::number_of;
 use fields::rate::rate_of;
-use fields::same::is_text;
-use measures::rate::Rate;
+use premise::opening::Opening;
 use premise::play::Call;
 
 const SPACE: u8 = b' ';
 
-// What a premise is opened with.
+// A line of a sheet, without its end.
 #[derive(Clone, Copy)]
-pub struct Opening {
-    pub rate: Rate,
-    pub digits: u32,
-    pub day: u32,
-    pub register: u32,
-    pub customer: u32,
+pub(crate) struct Line<'a> {
+    pub(crate) text: &'a [u8],
+    // From 1 over the whole sheet.
+    pub(crate) number: u32,
 }
 
 // A line of a call, told as its letter's case.
@@ -95,66 +92,71 @@ fn premise_line<'a>(line: &'a [u8]) -> Option<PremiseLine<'a>>
     })
 }
 
-fn number_in(field: &[u8], line: u32, place: u32) -> Result<u32, FieldFault>
-    ensures { result ≡ number_at line place field.now }
-{
-    match number_of(field) {
-        Some(number) => Ok(number),
-        None => Err(FieldFault { line, field: place }),
-    }
-}
-
-fn rate_in(field: &[u8], line: u32, place: u32) -> Result<Rate, FieldFault>
-    ensures { result ≡ rate_at line place field.now }
-{
-    match rate_of(field) {
-        Some(rate) => Ok(rate),
-        None => Err(FieldFault { line, field: place }),
-    }
-}
-
-// The call that a line tells, which is the line of this number.
-pub(crate) fn call_on(line: &[u8], number: u32) -> Result<Call, LineFault>
-    ensures { result ≡ call_at number (line_fields line.now) }
-{
-    match call_line(line) {
-        Some(CallLine::Read(day, register)) => Ok(Call::Read {
-            day: number_in(day, number, 2)?,
-            register: number_in(register, number, 3)?,
-        }),
-        Some(CallLine::Miss(day)) => Ok(Call::Miss {
-            day: number_in(day, number, 2)?,
-        }),
-        Some(CallLine::Move(customer)) => Ok(Call::Move {
-            customer: number_in(customer, number, 2)?,
-        }),
-        None => Err(LineFault::Form(number)),
-    }
-}
-
-// The opening that a line tells, which is the line of this number.
-pub(crate) fn opening_on(line: &[u8], number: u32) -> Result<Opening, LineFault>
-    ensures { result ≡ opening_at number (line_fields line.now) }
-{
-    let Some(fields) = premise_line(line) else {
-        return Err(LineFault::Form(number));
-    };
-    Ok(Opening {
-        rate: rate_in(fields.rate, number, 1)?,
-        digits: number_in(fields.digits, number, 2)?,
-        day: number_in(fields.day, number, 3)?,
-        register: number_in(fields.register, number, 4)?,
-        customer: number_in(fields.customer, number, 5)?,
-    })
-}
-
 // The count that stands before a name.
-pub(crate) fn count_on(line: &[u8], name: &[u8]) -> Option<u32>
+fn count_on(line: &[u8], name: &[u8]) -> Option<u32>
     ensures { result ≡ count_of name.now (line_fields line.now) }
 {
     let (count, word) = two_fields(line)?;
-    if !is_text(word, name) {
+    if word != name {
         return None;
     }
     number_of(count)
+}
+
+impl Line<'_> {
+    ghost use Rattle.sheets.specs.Lines.{fault_at, call_at, opening_at};
+    ghost use Rattle.sheets.specs.Sections.{count_at};
+
+    // The fault of one of its fields.
+    fn fault(self, field: u32) -> FieldFault
+        ensures { result ≡ fault_at self.entry.number field }
+    {
+        FieldFault {
+            line: self.number,
+            field,
+        }
+    }
+
+    // The call that the line tells.
+    pub(crate) fn call(self) -> Result<Call, LineFault>
+        ensures { result ≡ call_at self.entry.number (line_fields self.entry.text.now) }
+    {
+        match call_line(self.text) {
+            Some(CallLine::Read(day, register)) => Ok(Call::Read {
+                day: number_of(day).ok_or(self.fault(2))?,
+                register: number_of(register).ok_or(self.fault(3))?,
+            }),
+            Some(CallLine::Miss(day)) => Ok(Call::Miss {
+                day: number_of(day).ok_or(self.fault(2))?,
+            }),
+            Some(CallLine::Move(customer)) => Ok(Call::Move {
+                customer: number_of(customer).ok_or(self.fault(2))?,
+            }),
+            None => Err(LineFault::Form(self.number)),
+        }
+    }
+
+    // The opening that the line tells.
+    pub(crate) fn opening(self) -> Result<Opening, LineFault>
+        ensures { result ≡ opening_at self.entry.number (line_fields self.entry.text.now) }
+    {
+        let fields = premise_line(self.text).ok_or(LineFault::Form(self.number))?;
+        Ok(Opening {
+            rate: rate_of(fields.rate).ok_or(self.fault(1))?,
+            digits: number_of(fields.digits).ok_or(self.fault(2))?,
+            day: number_of(fields.day).ok_or(self.fault(3))?,
+            register: number_of(fields.register).ok_or(self.fault(4))?,
+            customer: number_of(fields.customer).ok_or(self.fault(5))?,
+        })
+    }
+
+    // The count that the line tells, which is a section's count line.
+    pub(crate) fn count(self, name: &[u8], low: u32, high: u32) -> Result<u32, SectionFault>
+        ensures { result ≡ count_at self.entry.number name.now low high self.entry.text.now }
+    {
+        match count_on(self.text, name) {
+            Some(count) if (low..=high).contains(&count) => Ok(count),
+            _ => Err(SectionFault::Count(self.number)),
+        }
+    }
 }

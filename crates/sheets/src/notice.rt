@@ -1,6 +1,6 @@
 // What is told of a refused sheet.
 ghost use Rattle.std.specs.Prelude.{◌≡◌};
-ghost use Rattle.sheets.specs.Notices.{notice_of, sheet_notice, section_notice};
+ghost use Rattle.sheets.specs.Notices.{notice_of, section_notice};
 
 use crate::fault::{LineFault, SectionFault, SheetFault};
 use measures::refusal;
@@ -32,29 +32,21 @@ impl SheetFault {
         match self {
             SheetFault::Premise(fault) => of_section(Section::Premise, fault),
             SheetFault::Calls(fault) => of_section(Section::Calls, fault),
-            SheetFault::Long => of_sheet(),
-            SheetFault::Rest => of_sheet(),
+            SheetFault::Long | SheetFault::Rest => Some(Notice {
+                section: Section::Sheet,
+                line: 0,
+                field: 0,
+                number: refusal::SHEET,
+            }),
         }
     }
-}
-
-fn of_sheet() -> Option<Notice>
-    ensures { result ≡ sheet_notice }
-{
-    Some(Notice {
-        section: Section::Sheet,
-        line: 0,
-        field: 0,
-        number: refusal::SHEET,
-    })
 }
 
 fn of_section(section: Section, fault: SectionFault) -> Option<Notice>
     ensures { result ≡ section_notice section fault }
 {
     let (line, field, number) = match fault {
-        SectionFault::Count(line) => (line, 0, refusal::COUNT),
-        SectionFault::Missing(line) => (line, 0, refusal::COUNT),
+        SectionFault::Count(line) | SectionFault::Missing(line) => (line, 0, refusal::COUNT),
         SectionFault::Line(LineFault::Form(line)) => (line, 0, refusal::LINE),
         SectionFault::Line(LineFault::Field(at)) => (at.line, at.field, refusal::FIELD),
         SectionFault::Memory => return None,

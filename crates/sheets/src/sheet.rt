@@ -1,16 +1,15 @@
 // A whole sheet.
 ghost use Rattle.std.specs.Prelude.{◌≡◌, List, IfOk, MatchResult};
 ghost use Rattle.premise.specs.declared.play.Call.{Call};
-ghost use Rattle.sheets.specs.declared.line.Opening.{Opening};
+ghost use Rattle.premise.specs.declared.opening.Opening.{Opening};
 ghost use Rattle.sheets.specs.declared.fault.SectionFault.TheVariants.{Memory};
 ghost use Rattle.sheets.specs.declared.fault.SheetFault.TheVariants.{Calls};
 ghost use Rattle.sheets.specs.Sections.{SheetRead, SheetRefused};
 ghost use Rattle.sheets.specs.Texts.{TextOf, NoTwoAlike};
 
 use crate::fault::SheetFault;
-use crate::line::Opening;
-use crate::place::Place;
-use crate::section::{read_calls, read_premise};
+use crate::reader::{Place, Reader};
+use premise::opening::Opening;
 use premise::play::Call;
 use std::alloc::Global;
 
@@ -40,16 +39,13 @@ fn read_lines(heap: Global, bytes: &[u8]) -> Result<Sheet, SheetFault>
     if bytes.len() > MOST_BYTES {
         return Err(SheetFault::Long);
     }
-    let mut place = Place { at: 0, line: 0 };
-    let opening = match read_premise(bytes, &mut place) {
-        Ok(opening) => opening,
-        Err(fault) => return Err(SheetFault::Premise(fault)),
+    let mut reader = Reader {
+        sheet: bytes,
+        place: Place { at: 0, line: 0 },
     };
-    let calls = match read_calls(heap, bytes, &mut place) {
-        Ok(calls) => calls,
-        Err(fault) => return Err(SheetFault::Calls(fault)),
-    };
-    if place.at < bytes.len() {
+    let opening = reader.premise().map_err(SheetFault::Premise)?;
+    let calls = reader.calls(heap).map_err(SheetFault::Calls)?;
+    if !reader.at_end() {
         return Err(SheetFault::Rest);
     }
     Ok(Sheet { opening, calls })

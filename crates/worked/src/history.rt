@@ -1,20 +1,7 @@
 // The calls of the worked history, and the book that they are played on.
-use measures::entry::{Entry, Kind};
 use premise::play::Call;
 
 pub const PLACES: usize = 240;
-
-// What stands at a place that is not in use.
-pub const BLANK: Entry = Entry {
-    customer: 0,
-    end_day: 0,
-    days: 0,
-    usage_days: 0,
-    kind: Kind::Actual,
-    rung: 0,
-    initial: false,
-    kwh: 0,
-};
 
 // A short first month that is put off, an estimate, a true-up, an estimate that a read corrects, another customer.
 pub const WORKED: [Call; 9] = [

@@ -1,5 +1,5 @@
 // Histories with answers that were worked out by hand.
-use crate::history::{BLANK, PLACES, WORKED};
+use crate::history::{PLACES, WORKED};
 use estimating::fixed::Fixed;
 use judging::{ByHalf, Never};
 use ladder::standard::{StandardMethod, standard_method};
@@ -8,6 +8,7 @@ use measures::rate::Rate;
 use premise::calls::settled_alike;
 use premise::file::PremiseFile;
 use premise::happening::Happening;
+use premise::opening::Opening;
 use premise::play::Call;
 use std::process::Abort;
 use std::test::Fail;
@@ -21,7 +22,18 @@ fn answers(
     calls: &[Call],
     expected: &[Happening],
 ) -> Result<(), Fail> {
-    let mut file = PremiseFile::open(standard_method(), ByHalf, rate, digits, 100, 0, 7, book)?;
+    let mut file = PremiseFile::open(
+        standard_method(),
+        ByHalf,
+        &Opening {
+            rate,
+            digits,
+            day: 100,
+            register: 0,
+            customer: 7,
+        },
+        book,
+    )?;
     let happened = file.play(rt.alloc(), book, calls)?;
     assert!(rt; happened.as_slice() == expected);
     Ok(())
@@ -29,15 +41,17 @@ fn answers(
 
 #[test]
 fn worked_history(rt: HostRuntime) -> Result<(), Fail> {
-    let mut book = [BLANK; PLACES];
+    let mut book = [Entry::BLANK; PLACES];
     let mut file = PremiseFile::open(
         standard_method(),
         ByHalf,
-        Rate::E12,
-        5,
-        100,
-        99_500,
-        7,
+        &Opening {
+            rate: Rate::E12,
+            digits: 5,
+            day: 100,
+            register: 99_500,
+            customer: 7,
+        },
         &book,
     )?;
     let happened = file.play(rt.alloc(), &mut book, &WORKED)?;
@@ -60,7 +74,7 @@ fn worked_history(rt: HostRuntime) -> Result<(), Fail> {
 
 #[test]
 fn short_first_month(rt: HostRuntime) -> Result<(), Fail> {
-    let mut book = [BLANK; 2];
+    let mut book = [Entry::BLANK; 2];
     answers(
         &rt,
         Rate::E12,
@@ -81,7 +95,7 @@ fn short_first_month(rt: HostRuntime) -> Result<(), Fail> {
 
 #[test]
 fn refusals_of_calls(rt: HostRuntime) -> Result<(), Fail> {
-    let mut book = [BLANK; 2];
+    let mut book = [Entry::BLANK; 2];
     let calls = [
         Call::Read {
             day: 36_525,
@@ -139,14 +153,36 @@ fn refusals_of_calls(rt: HostRuntime) -> Result<(), Fail> {
 // A file with refused calls between the accepted ones stands where one with the accepted ones alone does.
 #[test]
 fn refusals_change_nothing(rt: HostRuntime) -> Result<(), Fail> {
-    let mut book = [BLANK; 3];
+    let mut book = [Entry::BLANK; 3];
     let mut other_book = book;
-    let mut file = PremiseFile::open(standard_method(), ByHalf, Rate::E12, 4, 100, 0, 7, &book)?;
-    let mut other = PremiseFile::open(standard_method(), ByHalf, Rate::E12, 4, 100, 0, 7, &book)?;
+    let mut file = PremiseFile::open(
+        standard_method(),
+        ByHalf,
+        &Opening {
+            rate: Rate::E12,
+            digits: 4,
+            day: 100,
+            register: 0,
+            customer: 7,
+        },
+        &book,
+    )?;
+    let mut other = PremiseFile::open(
+        standard_method(),
+        ByHalf,
+        &Opening {
+            rate: Rate::E12,
+            digits: 4,
+            day: 100,
+            register: 0,
+            customer: 7,
+        },
+        &book,
+    )?;
     assert_eq!(rt; file.read(&mut book, 130, 10_000), Err(3));
     assert_eq!(rt; file.miss(&mut book, 200), Err(12));
     assert_eq!(rt; file.move_in(0), Err(4));
-    assert!(rt; book == [BLANK; 3]);
+    assert!(rt; book == [Entry::BLANK; 3]);
     assert_eq!(rt; file.miss(&mut book, 130), Ok((3, 7, 750)));
     assert_eq!(rt; other.miss(&mut other_book, 130), Ok((3, 7, 750)));
     assert_eq!(rt; file.move_in(8), Err(16));
@@ -165,7 +201,7 @@ fn refusals_change_nothing(rt: HostRuntime) -> Result<(), Fail> {
 
 #[test]
 fn no_answer_and_past_the_dial(rt: HostRuntime) -> Result<(), Fail> {
-    let mut book = [BLANK; 3];
+    let mut book = [Entry::BLANK; 3];
     let call = [Call::Miss { day: 111 }];
     answers(
         &rt,
@@ -183,19 +219,30 @@ fn no_answer_and_past_the_dial(rt: HostRuntime) -> Result<(), Fail> {
         &call,
         &[Happening::Miss(111, Err(15))],
     )?;
-    assert!(rt; book == [BLANK; 3], "no refusal writes");
+    assert!(rt; book == [Entry::BLANK; 3], "no refusal writes");
     Ok(())
 }
 
 #[test]
 fn another_book(rt: HostRuntime) -> Result<(), Fail> {
-    let mut book = [BLANK; 3];
-    let mut file = PremiseFile::open(standard_method(), ByHalf, Rate::E12, 5, 100, 0, 7, &book)?;
-    let mut longer = [BLANK; 4];
+    let mut book = [Entry::BLANK; 3];
+    let mut file = PremiseFile::open(
+        standard_method(),
+        ByHalf,
+        &Opening {
+            rate: Rate::E12,
+            digits: 5,
+            day: 100,
+            register: 0,
+            customer: 7,
+        },
+        &book,
+    )?;
+    let mut longer = [Entry::BLANK; 4];
     assert_eq!(rt; file.miss(&mut longer, 130), Err(11));
     assert_eq!(rt; file.read(&mut longer, 130, 5), Err(11));
     assert_eq!(rt; file.open_sum(&longer), Err(11));
-    assert!(rt; longer == [BLANK; 4]);
+    assert!(rt; longer == [Entry::BLANK; 4]);
     assert_eq!(rt; file.miss(&mut book, 130), Ok((3, 7, 750)));
     book[0].kwh = 100_000;
     assert_eq!(rt;
@@ -208,16 +255,16 @@ fn another_book(rt: HostRuntime) -> Result<(), Fail> {
 
 #[test]
 fn refusals_of_opening(rt: HostRuntime) {
-    let book = [BLANK; 1];
+    let book = [Entry::BLANK; 1];
     assert_eq!(rt; opens(3, 0, 0, 1, &book), Err(1));
     assert_eq!(rt; opens(9, 36_525, 0, 1, &book), Err(1));
     assert_eq!(rt; opens(4, 36_525, 10_000, 1, &book), Err(2));
     assert_eq!(rt; opens(4, 36_524, 10_000, 0, &book), Err(3));
     assert_eq!(rt; opens(4, 36_524, 9_999, 0, &[]), Err(4));
     assert_eq!(rt; opens(4, 36_524, 9_999, 1, &[]), Err(5));
-    assert_eq!(rt; opens(4, 36_524, 9_999, 1, &[BLANK; 241]), Err(5));
+    assert_eq!(rt; opens(4, 36_524, 9_999, 1, &[Entry::BLANK; 241]), Err(5));
     assert_eq!(rt;
-        opens(8, 0, 99_999_999, 4_294_967_295, &[BLANK; 240]),
+        opens(8, 0, 99_999_999, 4_294_967_295, &[Entry::BLANK; 240]),
         Ok(())
     );
 }
@@ -226,11 +273,13 @@ fn opens(digits: u32, day: u32, register: u32, customer: u32, book: &[Entry]) ->
     let _file = PremiseFile::open(
         Never,
         Never,
-        Rate::E12,
-        digits,
-        day,
-        register,
-        customer,
+        &Opening {
+            rate: Rate::E12,
+            digits,
+            day,
+            register,
+            customer,
+        },
         book,
     )?;
     Ok(())
@@ -251,28 +300,32 @@ fn long_history(rt: HostRuntime) -> Result<(), Fail> {
             *call = Call::Read { day, register };
         }
     }
-    let mut book = [BLANK; 240];
+    let mut book = [Entry::BLANK; 240];
     let mut file = PremiseFile::open(
         standard_method(),
         ByHalf,
-        Rate::E12,
-        5,
-        100,
-        99_000,
-        7,
+        &Opening {
+            rate: Rate::E12,
+            digits: 5,
+            day: 100,
+            register: 99_000,
+            customer: 7,
+        },
         &book,
     )?;
     let _ = file.play(rt.alloc(), &mut book, &calls)?;
     assert_eq!(rt; file.settled_sum(&book), Ok(87_720));
-    let mut other_book = [BLANK; 240];
+    let mut other_book = [Entry::BLANK; 240];
     let mut other = PremiseFile::open(
         Fixed::new(40, 3)?,
         Never,
-        Rate::Other,
-        5,
-        100,
-        99_000,
-        9,
+        &Opening {
+            rate: Rate::Other,
+            digits: 5,
+            day: 100,
+            register: 99_000,
+            customer: 9,
+        },
         &other_book,
     )?;
     let _ = other.play(rt.alloc(), &mut other_book, &calls)?;

@@ -3,8 +3,8 @@ use Rattle.calendar.proofs.Months.{month_none}
 use Rattle.calendar.proofs.Walk.{reached_start, reached_next, reached_end}
 use Rattle.calendar.proofs.month_of.Goals as goal
 
-pub returns-then-day-gt-LAST_DAY : goal.returns-then-day-gt-LAST_DAY
-returns-then-day-gt-LAST_DAY c = record { answer = sym (month_none c.args.day (omega arith)); within = omega arith }
+pub returns-then-day-gt-LAST_DAY-clause-answer : goal.returns-then-day-gt-LAST_DAY-clause-answer
+returns-then-day-gt-LAST_DAY-clause-answer c = sym (month_none c.args.day (omega arith))
 
 pub loop-i-init : goal.loop-i-init
 loop-i-init c = reached_start c.month_lengths-lengths.result c.args.day c.month_lengths-lengths.ensures

@@ -1,15 +1,20 @@
-use Rattle.std.proofs.Common.{◌<◌, map, length, Err, sym, ap, ◌∙◌, arith, rules}
-use Rattle.std.proofs.lemmas.List.{length-map}
-use Rattle.exports.specs.Gaps.{interval_of}
-use Rattle.exports.proofs.Long.{long_list}
+use Rattle.std.proofs.Common.{◌≡◌, map, rules}
+use Rattle.std.proofs.lemmas.Slice.Zip.{AllZip-map}
+use Rattle.exports.specs.Gaps.{interval_of, metered_of}
 use Rattle.exports.proofs.gaps.fill_list.Goals as goal
 
-pub returns-then-count-gt-MOST_INTERVALS : goal.returns-then-count-gt-MOST_INTERVALS
-returns-then-count-gt-MOST_INTERVALS c =
-    let xs = map interval_of c.args.intervals.now in
-    let long : 3360 < length xs = omega (arith, length-map c.args.intervals.now interval_of, c.if-count-gt-MOST_INTERVALS.true) in
-    record {
-      value = ap Err c.too_long.ensures ∙ sym (long_list c.args.month.now xs long);
-      after = search rules;
-      few = tt;
-    }
+pub returns-in_err-filled-clause-value : goal.returns-in_err-filled-clause-value
+returns-in_err-filled-clause-value c =
+    let copied : c.copy_from.new.to ≡ map interval_of c.args.intervals.now = AllZip-map interval_of c.args.intervals.now c.copy_from.new.to c.copy_from.ensures in
+    search (rules, copied)
+
+pub returns-clause-value : goal.returns-clause-value
+returns-clause-value c =
+    let copied : c.copy_from.new.to ≡ map interval_of c.args.intervals.now = AllZip-map interval_of c.args.intervals.now c.copy_from.new.to c.copy_from.ensures in
+    search (rules, copied)
+
+pub returns-clause-after : goal.returns-clause-after
+returns-clause-after c =
+    let copied : c.copy_from.new.to ≡ map interval_of c.args.intervals.now = AllZip-map interval_of c.args.intervals.now c.copy_from.new.to c.copy_from.ensures in
+    let back : c.copy_from-2.new.to ≡ map metered_of c.fill.new.intervals = AllZip-map metered_of c.fill.new.intervals c.copy_from-2.new.to c.copy_from-2.ensures in
+    search (rules, copied, back)

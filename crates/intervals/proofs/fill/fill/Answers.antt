@@ -3,30 +3,33 @@ use Rattle.intervals.specs.Intervals.{valid_wh, weights_in, missing_in, checked,
 use Rattle.intervals.proofs.Known.{Known, known, Left, left_known, answered}
 use Rattle.intervals.proofs.Filling.{accepted, filled_is, filled_up}
 use Rattle.intervals.proofs.fill.fill.Goals as goal
-use Rattle.intervals.proofs.fill.fill.Goals.{In_ok-check, In_ok-left}
+use Rattle.intervals.proofs.fill.fill.Goals.{In_ok-known, In_ok-left}
 
 -- what the checks leave known, and what is left to share
-check_is : (c : In_ok-check) → checked c.args.month.now c.args.intervals.now ≡ Ok tt
-check_is c = sym c.in_ok-check.ensures
+check_is : (c : In_ok-known) → checked c.args.month.now c.args.intervals.now ≡ Ok tt
+check_is c = c.in_ok-known.ensures.2
 
-checks_passed : (c : In_ok-check) → Known c.args.month.now c.args.intervals.now
+checks_passed : (c : In_ok-known) → Known c.args.month.now c.args.intervals.now
 checks_passed c = known c.args.month.now c.args.intervals.now (check_is c)
 
 left_is : (c : In_ok-left) → left_over c.args.month.now.total (missing_in c.args.intervals.now) (valid_wh c.args.intervals.now) (weights_in c.args.month.now c.args.intervals.now) ≡ Ok c.in_ok-left.left
-left_is c = rw (← c.count_missing-missing.ensures, ← c.sum_valid-valid.ensures, ← c.sum_weights-weights.ensures) (sym c.in_ok-left.ensures)
+left_is c =
+    let m = c.in_ok-known.ensures.0 in
+    let xs = c.in_ok-known.ensures.1 in
+    let e : c.count_missing-missing.result ≡ missing_in c.args.intervals.now = c.count_missing-missing.ensures ∙ ap missing_in xs in
+    let f : c.sum_valid.result ≡ valid_wh c.args.intervals.now = c.sum_valid.ensures ∙ ap valid_wh xs in
+    let g : c.sum_weights.result ≡ weights_in c.args.month.now c.args.intervals.now = rw (← m, ← xs) c.sum_weights.ensures in
+    rw (← e, ← f, ← g) (sym c.in_ok-left.ensures)
 
 rest : (c : In_ok-left) → Left c.args.month.now.total (valid_wh c.args.intervals.now) (weights_in c.args.month.now c.args.intervals.now) c.in_ok-left.left
 rest c = left_known _ _ _ _ _ (left_is c)
 
-pub sum_weights-weights-requires : goal.sum_weights-weights-requires
-sum_weights-weights-requires c = (checks_passed (goal.at.sum_weights-weights-requires c).In_ok-check).usable
-
 pub weigh-requires : goal.weigh-requires
-weigh-requires c = (checks_passed (goal.at.weigh-requires c).In_ok-check).usable
+weigh-requires c = (checks_passed (goal.at.weigh-requires c).In_ok-known).usable
 
 pub unreachable-requires : goal.unreachable-requires
 unreachable-requires c =
-    let k = checks_passed (goal.at.unreachable-requires c).In_ok-check in
+    let k = checks_passed (goal.at.unreachable-requires c).In_ok-known in
     let r = rest (goal.at.unreachable-requires c).In_ok-left in
     let a = accepted c.args.month.now c.args.intervals.now c.weigh.new.intervals c.in_ok-left.left k r c.weigh.ensures in
     let b = c.in_default.ensures.answer in
@@ -40,12 +43,12 @@ returns c =
     let ws = c.weigh.new.intervals in
     let ys = c.share_out.new.records in
     let left = c.in_ok-left.left in
-    let k = checks_passed (goal.at.returns c).In_ok-check in
+    let k = checks_passed (goal.at.returns c).In_ok-known in
     let r = rest (goal.at.returns c).In_ok-left in
-    let n : c.count_missing-missing.result ≡ missing_in xs = c.count_missing-missing.ensures in
+    let n : c.count_missing-missing.result ≡ missing_in xs = c.count_missing-missing.ensures ∙ ap missing_in c.in_ok-known.ensures.1 in
     let shares = c.in-Ok.ensures.after in
     record {
-      answer = ap Ok n ∙ sym (answered m xs left (check_is (goal.at.returns c).In_ok-check) (left_is (goal.at.returns c).In_ok-left));
+      answer = ap Ok n ∙ sym (answered m xs left (check_is (goal.at.returns c).In_ok-known) (left_is (goal.at.returns c).In_ok-left));
       after = filled_is m xs ws left k r c.weigh.ensures ys shares;
       promise = filled_up m xs ws left k r c.weigh.ensures ys shares c.count_missing-missing.result n (c.in-Ok.ensures.promise refl);
     }

@@ -2,8 +2,8 @@ use Rattle.std.proofs.Common.{arith}
 use Rattle.listing.proofs.Lines.{refused_few}
 use Rattle.listing.proofs.line.put_refused.Goals as goal
 
-pub put_lettered-requires : goal.put_lettered-requires
-put_lettered-requires c = omega (arith, c.requires, refused_few c.args.number (omega arith))
+pub lettered-requires : goal.lettered-requires
+lettered-requires c = omega (arith, c.requires, c.from.ensures, refused_few c.from.result (omega (arith, c.from.ensures)))
 
-pub returns : goal.returns
-returns c = record { text = c.put_lettered.ensures; few = omega (arith, c.put_lettered.ensures.end, refused_few c.args.number (omega arith)) }
+pub returns-clause-few : goal.returns-clause-few
+returns-clause-few c = omega (arith, c.lettered.ensures.put.end, refused_few c.from.result (omega (arith, c.from.ensures)))

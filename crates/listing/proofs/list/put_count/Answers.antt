@@ -1,16 +1,16 @@
 use Rattle.std.proofs.Common.{decimal, arith}
 use Rattle.listing.proofs.Numbers.{three_at_most}
-use Rattle.listing.proofs.Puts.{put_then}
+use Rattle.listing.proofs.Puts.{wrote_then}
 use Rattle.listing.proofs.list.put_count.Goals as goal
 
-pub put_number-end-requires : goal.put_number-end-requires
-put_number-end-requires c = omega (arith, c.requires.room, three_at_most c.args.count (omega (arith, c.requires.count)))
+pub number-requires : goal.number-requires
+number-requires c = omega (arith, c.requires.room, three_at_most c.args.count (omega (arith, c.requires.count)))
 
-pub put_text-requires : goal.put_text-requires
-put_text-requires c = omega (arith, c.requires.room, c.put_number-end.ensures.end, c.put_number-end.auto.buffer, three_at_most c.args.count (omega (arith, c.requires.count)))
+pub text-requires : goal.text-requires
+text-requires c = omega (arith, c.requires.room, c.number.ensures.put.end, c.number.ensures.long, three_at_most c.args.count (omega (arith, c.requires.count)))
 
-pub returns : goal.returns
-returns c = record {
-  text = put_then c.args.at (decimal c.args.count) c.args.name.now c.args.buffer.now c.put_number-end.new.buffer c.put_text.new.buffer c.put_number-end.result c.put_text.result (omega (arith, c.requires.room)) c.put_number-end.ensures c.put_text.ensures;
-  few = omega (arith, c.put_text.ensures.end, c.put_number-end.ensures.end, three_at_most c.args.count (omega (arith, c.requires.count)));
-}
+pub returns-clause-text : goal.returns-clause-text
+returns-clause-text c = wrote_then (decimal c.args.count) c.args.name.now c.number.new.self c.text.new.self c.number.ensures c.text.ensures (omega (arith, c.requires.room))
+
+pub returns-clause-few : goal.returns-clause-few
+returns-clause-few c = omega (arith, c.text.ensures.put.end, c.number.ensures.put.end, three_at_most c.args.count (omega (arith, c.requires.count)))

@@ -1,29 +1,27 @@
-use Rattle.std.proofs.Common.{◌≡◌, ◌-◌, length, Some, None, sym, arith}
-use Rattle.std.proofs.lemmas.List.{at_drop_all}
+use Rattle.std.proofs.Common.{◌≡◌, [], ◌∷◌, ◌++◌, length, Some, None, sym, ap, ◌∙◌}
+use Rattle.std.proofs.lemmas.List.{nil_from_length}
 use Rattle.lookup.specs.Latest.{latest_place}
-use Rattle.lookup.proofs.Lookups.{place_no, place_yes, place_law}
+use Rattle.lookup.proofs.Lookups.{parted, place_from, place_law}
 use Rattle.lookup.proofs.latest.latest_place.Goals as goal
+use Rattle.lookup.proofs.latest.latest_place.Goals.{In-Some}
+use Rattle.lookup.proofs.latest.latest_place.Given.{Over}
 
-pub loop-i-init : goal.loop-i-init
-loop-i-init g c =
-    let book = c.args.book.now in
-    at_drop_all (latest_place (g.F.Fit.fits c.args.fit.now)) book (length book) (omega arith)
+-- the book is what comes before the last record of the front, that record, and what is behind it
+apart : (g : Over) (c : goal.In-Some g) → c.args.book.now ≡ c.in-Some.before.now ++ (c.in-Some.last.now ∷ c.loop-last.invariant.0)
+apart g c = parted _ _ _ _ _ c.loop-last.invariant.1 c.in-Some.ensures.cases.0
 
 pub returns-then-fit : goal.returns-then-fit
 returns-then-fit g c =
     let test = g.F.Fit.fits c.args.fit.now in
-    let book = c.args.book.now in
-    let e = place_yes test book c.loop-i.i c.index-book-i.result (omega arith) (omega arith) c.loop-i.invariant c.index-book-i.is (sym c.if-fit.ensures) in
-    record { answer = e; found = place_law test book (Some (c.loop-i.i - 1)) e }
-
-pub loop-i-preserved : goal.loop-i-preserved
-loop-i-preserved g c =
-    place_no (g.F.Fit.fits c.args.fit.now) c.args.book.now c.loop-i.i c.index-book-i.result (omega arith) (omega arith) c.loop-i.invariant c.index-book-i.is (sym c.if-fit.ensures)
+    let found = place_from test c.in-Some.before.now c.in-Some.last.now c.loop-last.invariant.0 c.loop-last.invariant.2 (sym c.if-fit.ensures) in
+    let e : Some (length c.in-Some.before.now) ≡ latest_place test c.args.book.now
+    = sym found ∙ ap (latest_place test) (sym (apart g (goal.at.returns-then-fit g c).In-Some)) in
+    record { answer = e; found = place_law test c.args.book.now (Some (length c.in-Some.before.now)) e }
 
 pub returns : goal.returns
 returns g c =
     let test = g.F.Fit.fits c.args.fit.now in
-    let book = c.args.book.now in
-    let z : c.loop-i.i ≡ 0 = omega arith in
-    let e = sym (rw z at c.loop-i.invariant) in
-    record { answer = e; found = place_law test book None e }
+    let none : c.loop-last.front.now ≡ [] = nil_from_length c.loop-last.front.now c.in_default.ensures.cases in
+    let whole : c.args.book.now ≡ c.loop-last.invariant.0 = c.loop-last.invariant.1 ∙ ap (λ xs. xs ++ c.loop-last.invariant.0) none in
+    let e = sym (ap (latest_place test) whole ∙ c.loop-last.invariant.2) in
+    record { answer = e; found = place_law test c.args.book.now None e }

@@ -1,7 +1,11 @@
-use Rattle.std.proofs.Common.{◌≡◌, drop, None}
+use Rattle.std.proofs.Common.{◌≡◌, List, ◌++◌, length, None}
 use Rattle.lookup.specs.Latest.{latest_place}
 use Rattle.lookup.proofs.latest.latest_place.Given as goal
 
--- no record behind those that are left passes
-abbrev pub invariant-loop-i : goal.invariant-loop-i
-invariant-loop-i g l = latest_place (g.F.Fit.fits l.fit) (drop l.i l.book) ≡ None
+-- the book is the front and records behind it of which none passes
+abbrev pub invariant-loop-last : goal.invariant-loop-last
+invariant-loop-last g l =
+    (back : List g.row.R.Denot) × (l.book ≡ l.front ++ back) × (latest_place (g.F.Fit.fits l.fit) back ≡ None)
+
+abbrev pub decreases-loop-last : goal.decreases-loop-last
+decreases-loop-last g l = length l.front

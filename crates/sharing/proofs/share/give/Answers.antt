@@ -1,5 +1,5 @@
 use Rattle.std.proofs.Common.{◌≡◌, ◌+◌, ◌-◌, ◌<◌, ◌≤◌, true, false, length, get_or, drop, sym, ap, ◌∙◌, arith}
-use Rattle.std.proofs.lemmas.List.{at_drop_all, take_all, set-get_or, drop-set-lt, append-nil}
+use Rattle.std.proofs.lemmas.List.{set-get_or, drop-set-lt}
 use Rattle.sharing.specs.Sharing.{sum_of, running, shared_from}
 use Rattle.sharing.proofs.Running.{running_up, running_start}
 use Rattle.sharing.proofs.Shares.{left_yes, left_no, shared_yes, shared_no}
@@ -50,13 +50,3 @@ loop-r-preserved g c =
           let d : drop (i + 1) c.if-due.records ≡ drop (i + 1) xs = ap (drop (i + 1)) r in
           (cc, omega (arith, c.loop-r.invariant.1, s, ap (sum_of m.part m.weighs) d), cc)
     ]
-
-pub returns : goal.returns
-returns g c =
-    let m = g.R.Shares in
-    let xs = c.loop-r.records in
-    let le : length xs ≤ c.loop-r.r-index = omega arith in
-    let t = take_all c.loop-r.r-index xs le in
-    let d = at_drop_all (shared_from m.part m.weighs m.given c.args.total c.args.all c.loop-r.weighed) xs c.loop-r.r-index le in
-    let n = append-nil xs in
-    cc

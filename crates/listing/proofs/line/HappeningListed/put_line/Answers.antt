@@ -1,23 +1,31 @@
-use Rattle.std.proofs.Common.{arith, rules}
+use Rattle.std.proofs.Common.{arith}
 use Rattle.listing.proofs.Lines.{read_few, miss_few}
 use Rattle.listing.proofs.line.HappeningListed.put_line.Goals as goal
 
-pub put_lettered-requires : goal.put_lettered-requires
-put_lettered-requires c =
+pub lettered-requires : goal.lettered-requires
+lettered-requires c =
     let a = c.in-Read-default-default-Ok in
-    omega (arith, c.requires, read_few a.kind a.kwh a.corrected (omega arith) (omega arith) (omega arith))
+    let kind = c.from in
+    let corrected = c.from-in-Read-default-default-Ok in
+    omega (arith, c.requires, read_few kind.result a.kwh corrected.result (omega (arith, kind.ensures)) (omega arith) (omega (arith, corrected.ensures)))
 
-pub put_lettered-requires-in-Miss-default-Ok : goal.put_lettered-requires-in-Miss-default-Ok
-put_lettered-requires-in-Miss-default-Ok c =
+pub lettered-requires-in-Miss-default-Ok : goal.lettered-requires-in-Miss-default-Ok
+lettered-requires-in-Miss-default-Ok c =
     let a = c.in-Miss-default-Ok in
-    omega (arith, c.requires, miss_few a.kind a.rung a.kwh (omega arith) (omega arith) (omega arith))
+    let kind = c.from-in-Miss-default-Ok in
+    let rung = c.from-in-Miss-default-Ok-2 in
+    omega (arith, c.requires, miss_few kind.result rung.result a.kwh (omega (arith, kind.ensures)) (omega (arith, rung.ensures)) (omega arith))
 
-pub returns-in-Read-default-default-Ok : goal.returns-in-Read-default-default-Ok
-returns-in-Read-default-default-Ok c =
+pub returns-in-Read-default-default-Ok-clause-few : goal.returns-in-Read-default-default-Ok-clause-few
+returns-in-Read-default-default-Ok-clause-few c =
     let a = c.in-Read-default-default-Ok in
-    record { text = search rules; few = omega (arith, c.put_lettered.ensures.end, read_few a.kind a.kwh a.corrected (omega arith) (omega arith) (omega arith)) }
+    let kind = c.from in
+    let corrected = c.from-in-Read-default-default-Ok in
+    omega (arith, c.lettered.ensures.put.end, read_few kind.result a.kwh corrected.result (omega (arith, kind.ensures)) (omega arith) (omega (arith, corrected.ensures)))
 
-pub returns-in-Miss-default-Ok : goal.returns-in-Miss-default-Ok
-returns-in-Miss-default-Ok c =
+pub returns-in-Miss-default-Ok-clause-few : goal.returns-in-Miss-default-Ok-clause-few
+returns-in-Miss-default-Ok-clause-few c =
     let a = c.in-Miss-default-Ok in
-    record { text = search rules; few = omega (arith, c.put_lettered-in-Miss-default-Ok.ensures.end, miss_few a.kind a.rung a.kwh (omega arith) (omega arith) (omega arith)) }
+    let kind = c.from-in-Miss-default-Ok in
+    let rung = c.from-in-Miss-default-Ok-2 in
+    omega (arith, c.lettered-in-Miss-default-Ok.ensures.put.end, miss_few kind.result rung.result a.kwh (omega (arith, kind.ensures)) (omega (arith, rung.ensures)) (omega arith))
