@@ -1,5 +1,6 @@
 // Totals shared out, demands and filled intervals, from the lines of a case to the lines of the answer. A refusal is `N` and its
 // number.
+use crate::answers::{line, refused};
 use crate::words::{numbers_in, some_numbers, wrong};
 use exports::demands::{Period, Reading, pekstuvna_demand};
 use exports::gaps::{Metered, Span, pekstuvna_fill};
@@ -12,13 +13,13 @@ pub fn share(heap: Global, lines: &[&str]) -> anyhow::Result<String> {
         return Err(wrong());
     };
     let [total] = numbers_in::<1>(total)?;
-    let mut portions = Vec::new(heap);
-    for line in records {
-        portions.push(portion_in(line)?)?;
-    }
+    let mut portions: Vec<Portion> = records
+        .iter()
+        .map(|line| portion_in(line))
+        .try_collect(heap)?;
     let refusal = pekstuvna_share_out(total, portions.as_mut_slice());
     if refusal < 0 {
-        return refused(heap, refusal);
+        return refused(heap, refusal.unsigned_abs());
     }
     let mut text = String::new(heap);
     for portion in portions.iter() {
@@ -45,16 +46,16 @@ pub fn demand(heap: Global, lines: &[&str]) -> anyhow::Result<String> {
     let (words, initial) = asked.rsplit_once(' ').ok_or_else(wrong)?;
     let (words, rate) = words.rsplit_once(' ').ok_or_else(wrong)?;
     let period = period_in(words, initial)?;
-    let mut book = Vec::new(heap);
-    for line in entries {
-        book.push(reading_in(line)?)?;
-    }
+    let book: Vec<Reading> = entries
+        .iter()
+        .map(|line| reading_in(line))
+        .try_collect(heap)?;
     let mut tenths: u64 = 0;
     let number = pekstuvna_demand(book.as_slice(), &period, rate.as_bytes(), &mut tenths);
     if number < 0 {
-        return refused(heap, number);
+        return refused(heap, number.unsigned_abs());
     }
-    Ok(format!(in heap; "{number} {tenths}\n")?)
+    line(heap, format_args!("{number} {tenths}"))
 }
 
 fn period_in(words: &str, initial: &str) -> anyhow::Result<Period> {
@@ -89,10 +90,7 @@ pub fn fill(heap: Global, lines: &[&str]) -> anyhow::Result<String> {
     let weekday = some_numbers(heap, weekday)?;
     let weekend = some_numbers(heap, weekend)?;
     let holidays = some_numbers(heap, holidays)?;
-    let mut intervals = Vec::new(heap);
-    for line in list {
-        intervals.push(interval_in(line)?)?;
-    }
+    let mut intervals: Vec<Metered> = list.iter().map(|line| interval_in(line)).try_collect(heap)?;
     let filled = pekstuvna_fill(
         &span,
         weekday.as_slice(),
@@ -101,7 +99,7 @@ pub fn fill(heap: Global, lines: &[&str]) -> anyhow::Result<String> {
         intervals.as_mut_slice(),
     );
     if filled < 0 {
-        return refused(heap, filled);
+        return refused(heap, filled.unsigned_abs());
     }
     let mut text = format!(in heap; "{filled}\n")?;
     for interval in intervals.iter() {
@@ -123,10 +121,4 @@ fn span_in(line: &str) -> anyhow::Result<Span> {
 fn interval_in(line: &str) -> anyhow::Result<Metered> {
     let [wh, weight, mark] = numbers_in::<3>(line)?;
     Ok(Metered { wh, weight, mark })
-}
-
-// The line of a refusal, whose number is negative.
-fn refused(heap: Global, refusal: i64) -> anyhow::Result<String> {
-    let number = 0i64.saturating_sub(refusal);
-    Ok(format!(in heap; "N {number}\n")?)
 }

@@ -2,61 +2,48 @@
 // shared out, told and filled. It prints a line for each case that differs, one for each group and one for all of them.
 #![tactic(auto)]
 
+mod answers;
 mod asked;
 mod cases;
 mod lists;
 mod rungs;
 mod words;
 
-use cases::compare_cases;
+use cases::{Kind, compare_cases};
 use comparing::{cases_of, compare_sheets};
-use std::alloc::Global;
-use std::io;
-use tallies::report::{Group, end};
+use tallies::report::{Group, add_group, end};
 use tallies::tally::Tally;
 
 // The folder of sheets, each of which is refused.
 const SHEETS: &str = "refused";
 
-// Tells of a group, and adds it to all.
-fn add_group(
-    rt: &HostRuntime,
-    all: &mut Tally,
-    name: &str,
-    cases: &str,
-    tally: Tally,
-) -> io::Result<()> {
-    let group = Group { name, cases, tally };
-    println!(rt; "{group}")?;
-    *all += tally;
-    Ok(())
-}
-
-// Compares the cases of a file with what the call answers.
-fn add_file<F: Fn(Global, &[&str]) -> anyhow::Result<String>>(
-    rt: &HostRuntime,
-    all: &mut Tally,
-    file: &str,
-    answer: &F,
-) -> anyhow::Result<()>
-    requires { F.IsAlwaysCallable answer.now }
-{
-    let tally = compare_cases(rt, file, answer)?;
-    add_group(rt, all, file, "cases", tally)?;
-    Ok(())
-}
+// The files of cases, and what they ask.
+const FILES: [(&str, Kind); 7] = [
+    ("worked.txt", Kind::Call),
+    ("worked-sharing.txt", Kind::Share),
+    ("worked-demand.txt", Kind::Demand),
+    ("worked-intervals.txt", Kind::Fill),
+    ("sharing.txt", Kind::Share),
+    ("demand.txt", Kind::Demand),
+    ("intervals.txt", Kind::Fill),
+];
 
 fn run(rt: &HostRuntime) -> anyhow::Result<()> {
     let mut all = Tally::default();
-    let sheets = compare_sheets(rt, &cases_of(rt, SHEETS)?)?;
-    add_group(rt, &mut all, SHEETS, "sheets", sheets)?;
-    add_file(rt, &mut all, "worked.txt", &asked::answer)?;
-    add_file(rt, &mut all, "worked-sharing.txt", &lists::share)?;
-    add_file(rt, &mut all, "worked-demand.txt", &lists::demand)?;
-    add_file(rt, &mut all, "worked-intervals.txt", &lists::fill)?;
-    add_file(rt, &mut all, "sharing.txt", &lists::share)?;
-    add_file(rt, &mut all, "demand.txt", &lists::demand)?;
-    add_file(rt, &mut all, "intervals.txt", &lists::fill)?;
+    let sheets = Group {
+        name: SHEETS,
+        cases: "sheets",
+        tally: compare_sheets(rt, &cases_of(rt, SHEETS)?)?,
+    };
+    add_group(rt, &mut all, sheets)?;
+    for (name, kind) in FILES {
+        let cases = Group {
+            name,
+            cases: "cases",
+            tally: compare_cases(rt, name, kind)?,
+        };
+        add_group(rt, &mut all, cases)?;
+    }
     end(rt, all)
 }
 

@@ -1,46 +1,50 @@
 // What the ladder, or one of its rungs, answers: `ladder CUSTOMER END_DAY RATE` or `rung NUMBER CUSTOMER END_DAY RATE`, and then
 // a line `CUSTOMER END_DAY USAGE_DAYS INITIAL KWH` for each entry of the book. The answer is the rung, kWh and days of a basis.
+use crate::answers::line;
 use crate::words::{numbers_in, rate_in, wrong};
 use estimating::basis::{Basis, Question};
 use estimating::method::Method;
 use ladder::rungs::{ClassFigure, LastEntry, Seasonal, YearBack};
 use ladder::standard::standard_answer;
-use lookup::fit::Whose;
+use lookup::fit::Whose::{Anyone, Customer};
 use measures::entry::{Entry, Kind};
-use measures::rate::Rate;
 use std::alloc::Global;
 
-const OWN: Whose = Whose::Customer;
+pub fn on_ladder(heap: Global, words: &str, entries: &[&str]) -> anyhow::Result<String> {
+    let book = book_in(heap, entries)?;
+    basis_or_none(heap, standard_answer(book.as_slice(), &question_in(words)?))
+}
 
-const ANY: Whose = Whose::Anyone;
+pub fn on_rung(heap: Global, words: &str, entries: &[&str]) -> anyhow::Result<String> {
+    let (number, words) = words.split_once(' ').ok_or_else(wrong)?;
+    let [number] = numbers_in::<1>(number)?;
+    let book = book_in(heap, entries)?;
+    basis_or_none(
+        heap,
+        basis_on(number, book.as_slice(), &question_in(words)?),
+    )
+}
 
-pub fn answer(heap: Global, name: &str, words: &str, entries: &[&str]) -> anyhow::Result<String> {
-    let mut book = Vec::new(heap);
-    for line in entries {
-        book.push(entry_in(line)?)?;
-    }
-    let (numbers, rate) = words.rsplit_once(' ').ok_or_else(wrong)?;
-    let rate = rate_in(rate)?;
-    let basis = if name == "ladder" {
-        let [customer, end_day] = numbers_in::<2>(numbers)?;
-        standard_answer(book.as_slice(), &question(customer, end_day, rate)?)
-    } else {
-        let [rung, customer, end_day] = numbers_in::<3>(numbers)?;
-        on_rung(rung, book.as_slice(), &question(customer, end_day, rate)?)
-    };
+fn basis_or_none(heap: Global, basis: Option<Basis>) -> anyhow::Result<String> {
     match basis {
-        Some(Basis { rung, kwh, days }) => Ok(format!(in heap; "{rung} {kwh} {days}\n")?),
-        None => Ok(format!(in heap; "none\n")?),
+        Some(Basis { rung, kwh, days }) => line(heap, format_args!("{rung} {kwh} {days}")),
+        None => line(heap, "none"),
     }
 }
 
-fn question(customer: u32, end_day: u32, rate: Rate) -> anyhow::Result<Question> {
+fn question_in(words: &str) -> anyhow::Result<Question> {
+    let (numbers, rate) = words.rsplit_once(' ').ok_or_else(wrong)?;
+    let [customer, end_day] = numbers_in::<2>(numbers)?;
     Ok(Question {
         customer,
         start_day: 0,
         end_day: u16::try_from(end_day).map_err(|_| wrong())?,
-        rate,
+        rate: rate_in(rate)?,
     })
+}
+
+fn book_in(heap: Global, lines: &[&str]) -> anyhow::Result<Vec<Entry>> {
+    lines.iter().map(|line| entry_in(line)).try_collect(heap)
 }
 
 fn entry_in(line: &str) -> anyhow::Result<Entry> {
@@ -57,14 +61,14 @@ fn entry_in(line: &str) -> anyhow::Result<Entry> {
     })
 }
 
-fn on_rung(rung: u32, book: &[Entry], asked: &Question) -> Option<Basis> {
+fn basis_on(rung: u32, book: &[Entry], asked: &Question) -> Option<Basis> {
     match rung {
-        1 => LastEntry { whose: OWN }.answer(book, asked),
-        2 => YearBack { whose: OWN }.answer(book, asked),
-        3 => Seasonal { whose: OWN }.answer(book, asked),
-        4 => LastEntry { whose: ANY }.answer(book, asked),
-        5 => YearBack { whose: ANY }.answer(book, asked),
-        6 => Seasonal { whose: ANY }.answer(book, asked),
+        1 => LastEntry { whose: Customer }.answer(book, asked),
+        2 => YearBack { whose: Customer }.answer(book, asked),
+        3 => Seasonal { whose: Customer }.answer(book, asked),
+        4 => LastEntry { whose: Anyone }.answer(book, asked),
+        5 => YearBack { whose: Anyone }.answer(book, asked),
+        6 => Seasonal { whose: Anyone }.answer(book, asked),
         _ => ClassFigure.answer(book, asked),
     }
 }

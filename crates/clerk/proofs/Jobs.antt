@@ -4,7 +4,8 @@ use Rattle.premise.specs.Plays.{played}
 use Rattle.premise.proofs.Histories.{law_of}
 use Rattle.premise.proofs.Plays.{lived_played}
 use Rattle.ladder.specs.Ladder.{standard_rungs}
-use Rattle.clerk.specs.Jobs.{standard_table, by_half, blank_book, LawfulSheet}
+use Rattle.ladder.specs.Ladder.{standard_table}
+use Rattle.clerk.specs.Jobs.{by_half, blank_book, LawfulSheet}
 
 pub lawful : (bs : List ℕ) → LawfulSheet bs
 lawful bs o cs f e a =

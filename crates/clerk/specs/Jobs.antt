@@ -1,24 +1,14 @@
 -- A sheet and its listing.
---   Standard               the standard method: the seven rungs, asked one after the other
---   standard_table m       what it answers
 --   blank_book             240 places, none of them in use
 --   history_listing o cs   the listing of the calls cs on a file that was opened with o, or the line of its refusal
 --   sheet_listing bs       the listing of a sheet, or the line of its refusal
 --   LawfulSheet bs         the law over whole histories holds of the history that the sheet bs is the text of
---   Listed t b b' n        the n bytes of the text t are in front of the buffer, which keeps its other bytes
-use Rattle.std.specs.Prelude.{◌≡◌, ℕ, ◌<◌, ◌≤◌, Bool, false, List, [], length, take, replicate, Some, None, Ok, Err, Option, Result}
+--   Listed t b b' n        the n bytes of the text t, at most 15,624, are in front of the buffer, which keeps its other bytes
+--   Answers t b b' r       the text t is listed, or there is no listing, and r tells which
+use Rattle.std.specs.Prelude.{◌≡◌, ℕ, ◌<◌, ◌≤◌, Bool, false, List, [], length, take, replicate, Some, None, Ok, Err, Option, Result, MatchResult}
 use Rattle.measures.specs.declared.entry.Entry.{Entry}
 use Rattle.measures.specs.declared.entry.Kind.TheVariants.{Actual}
-use Rattle.estimating.specs.declared.basis.Question.{Question}
-use Rattle.estimating.specs.declared.basis.Basis.{Basis}
-use Rattle.estimating.specs.declared.first_then.FirstThen.{FirstThen}
-use Rattle.estimating.specs.Tables.{first_then}
-use Rattle.ladder.specs.declared.rungs.LastEntry.{LastEntry}
-use Rattle.ladder.specs.declared.rungs.YearBack.{YearBack}
-use Rattle.ladder.specs.declared.rungs.Seasonal.{Seasonal}
-use Rattle.ladder.specs.declared.rungs.ClassFigure.{ClassFigure}
-use Rattle.ladder.specs.Ladder.{standard_rungs}
-use Rattle.ladder.specs.Rungs.{last_entry, from_year_back, seasonal, class_figure}
+use Rattle.ladder.specs.Ladder.{Standard, standard_rungs, standard_table}
 use Rattle.judging.specs.declared.ByHalf.{ByHalf}
 use Rattle.judging.specs.Judgements.{half_higher}
 use Rattle.premise.specs.declared.file.PremiseFile.{PremiseFile}
@@ -37,18 +27,6 @@ use Rattle.listing.specs.Listing.{listing, in_front}
 use Rattle.listing.specs.Refused.{notice_line}
 use Rattle.clerk.specs.declared.Unlisted.{Unlisted}
 use Rattle.clerk.specs.declared.Unlisted.TheVariants.{Memory, Buffer}
-
-abbrev pub Standard : Type 0
-Standard = FirstThen LastEntry (FirstThen YearBack (FirstThen Seasonal (FirstThen LastEntry (FirstThen YearBack (FirstThen Seasonal ClassFigure)))))
-
-abbrev pub standard_table : Standard → List Entry → Question → Option Basis
-standard_table m book q =
-    first_then (last_entry m.first.whose book q)
-    (first_then (from_year_back m.second.first.whose book q)
-    (first_then (seasonal m.second.second.first.whose book q)
-    (first_then (last_entry m.second.second.second.first.whose book q)
-    (first_then (from_year_back m.second.second.second.second.first.whose book q)
-    (first_then (seasonal m.second.second.second.second.second.first.whose book q) (class_figure q))))))
 
 abbrev pub by_half : ByHalf → ℕ → ℕ → ℕ → Bool
 by_half _ a u w = half_higher a u w
@@ -91,9 +69,12 @@ LawfulSheet bs =
     → Law standard_table by_half f blank_book (played standard_table by_half cs f blank_book).0 (played standard_table by_half cs f blank_book).1 (played standard_table by_half cs f blank_book).2
 
 abbrev pub Listed : List ℕ → List ℕ → List ℕ → ℕ → Type 0
-Listed text before after n = (n ≡ length text) × (after ≡ in_front text before) × (16384 ≤ length before)
+Listed text before after n = (n ≡ length text) × (after ≡ in_front text before) × (16384 ≤ length before) × (n ≤ 15624)
 
 -- there is no memory, or the buffer is too short; it stays as it was
 abbrev pub NotListed : List ℕ → List ℕ → Unlisted → Type 0
 NotListed before after Memory = (after ≡ before) × (16384 ≤ length before)
 NotListed before after Buffer = (after ≡ before) × (length before < 16384)
+
+abbrev pub Answers : List ℕ → List ℕ → List ℕ → Result ℕ Unlisted → Type 0
+Answers text before after result = MatchResult result (Listed text before after) (NotListed before after)

@@ -1,11 +1,11 @@
 // The clerk's whole job: a sheet comes in, its history is played on a fresh book, and a listing goes out.
 #![tactic(auto)]
 
-ghost use Rattle.std.specs.Prelude.{◌≡◌, ◌≤◌, true, length, take, IfOk, MatchResult};
+ghost use Rattle.std.specs.Prelude.{◌≡◌, ◌≤◌, true, length, take, IfOk};
 ghost use Rattle.premise.specs.Files.{fits, in_use};
 ghost use Rattle.listing.specs.Listing.{listing};
 ghost use Rattle.listing.specs.Refused.{notice_line};
-ghost use Rattle.clerk.specs.Jobs.{Listed, NotListed, sheet_listing, history_listing, LawfulSheet};
+ghost use Rattle.clerk.specs.Jobs.{Answers, sheet_listing, history_listing, LawfulSheet};
 ghost use Rattle.clerk.specs.declared.Unlisted.TheVariants.{Memory};
 
 use judging::ByHalf;
@@ -15,7 +15,7 @@ use listing::refused::list_refusal;
 use measures::entry::Entry;
 use premise::file::PremiseFile;
 use premise::happening::Happening;
-use premise::opening::Opening;
+use premise::opening::{MOST_PLACES, Opening};
 use premise::play::Call;
 use sheets::notice::{Notice, Section};
 use sheets::sheet::read_sheet;
@@ -38,16 +38,13 @@ impl From<AllocError> for Unlisted {
     }
 }
 
-// The places of the book that a sheet is played on.
-pub const PLACES: usize = 240;
-
 // The line of a sheet that its opening stands on.
 const OPENING_LINE: u32 = 2;
 
 // Plays a sheet by the standard method and the judgement by half on a book of 240 places, and writes its listing, or the
 // line of its refusal, to the front of the buffer. It answers how many bytes that is.
 pub fn list_sheet(heap: Global, sheet: &[u8], buffer: &mut [u8]) -> Result<usize, Unlisted>
-    ensures answer { MatchResult result (Listed (sheet_listing sheet.now) buffer.old buffer.new) (NotListed buffer.old buffer.new) }
+    ensures answer { Answers (sheet_listing sheet.now) buffer.old buffer.new result }
     ensures room { IfOk result (λ n. n ≤ 15624) }
     ensures history { LawfulSheet sheet.now }
 {
@@ -55,8 +52,7 @@ pub fn list_sheet(heap: Global, sheet: &[u8], buffer: &mut [u8]) -> Result<usize
 }
 
 fn list_bytes(heap: Global, sheet: &[u8], buffer: &mut [u8]) -> Result<usize, Unlisted>
-    ensures answer { MatchResult result (Listed (sheet_listing sheet.now) buffer.old buffer.new) (NotListed buffer.old buffer.new) }
-    ensures room { IfOk result (λ n. n ≤ 15624) }
+    ensures answer { Answers (sheet_listing sheet.now) buffer.old buffer.new result }
 {
     if buffer.len() < LEAST_BUFFER {
         return Err(Unlisted::Buffer);
@@ -72,8 +68,7 @@ fn list_bytes(heap: Global, sheet: &[u8], buffer: &mut [u8]) -> Result<usize, Un
 
 // The line of a refusal.
 fn list_notice(notice: Notice, buffer: &mut [u8]) -> Result<usize, Unlisted>
-    ensures text { MatchResult result (Listed (notice_line notice) buffer.old buffer.new) (NotListed buffer.old buffer.new) }
-    ensures room { IfOk result (λ n. n ≤ 15624) }
+    ensures text { Answers (notice_line notice) buffer.old buffer.new result }
 {
     list_refusal(notice, buffer).map_err(|_| Unlisted::Buffer)
 }
@@ -87,10 +82,9 @@ fn list_history(
 ) -> Result<usize, Unlisted>
     requires room { 16384 ≤ length buffer.old }
     requires few { length calls.now ≤ 240 }
-    ensures text { MatchResult result (Listed (history_listing opening calls.now) buffer.old buffer.new) (NotListed buffer.old buffer.new) }
-    ensures room { IfOk result (λ n. n ≤ 15624) }
+    ensures text { Answers (history_listing opening calls.now) buffer.old buffer.new result }
 {
-    let mut book = [Entry::BLANK; PLACES];
+    let mut book = [Entry::BLANK; MOST_PLACES];
     let opened = PremiseFile::open(standard_method(), ByHalf, &opening, &book);
     match opened {
         Ok(mut file) => {
@@ -119,11 +113,8 @@ fn list_played(
     requires own { fits file.now book.now ≡ true }
     requires places { length book.now ≤ 240 }
     requires few { length happened.now ≤ 240 }
-    ensures text { MatchResult result (Listed (listing happened.now (take (in_use file.now) book.now)) buffer.old buffer.new) (NotListed buffer.old buffer.new) }
-    ensures room { IfOk result (λ n. n ≤ 15624) }
+    ensures text { Answers (listing happened.now (take (in_use file.now) book.now)) buffer.old buffer.new result }
 {
-    let Ok(entries) = file.entries(book) else {
-        unreachable()
-    };
+    let entries = file.entries(book).unwrap();
     list(happened, entries, buffer).map_err(|_| Unlisted::Buffer)
 }

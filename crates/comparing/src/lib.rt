@@ -16,10 +16,11 @@ use tallies::tally::Tally;
 pub fn cases_of(rt: &HostRuntime, group: &str) -> anyhow::Result<Vec<String>>
     ensures { IfOk result (λ cases. IsSorted ⟦<String as Ord>⟧.cmp cases.items) }
 {
-    let mut cases = Vec::new(rt.alloc());
-    for case in fs::read_dir(rt, group)? {
-        cases.push(String::from_str(rt.alloc(), case?.path().as_str())?)?;
-    }
+    let mut cases: Vec<String> = fs::read_dir(rt, group)?
+        .map(|case| -> anyhow::Result<String> {
+            Ok(String::from_str(rt.alloc(), case?.path().as_str())?)
+        })
+        .try_collect(rt.alloc())?;
     cases.sort()?;
     Ok(cases)
 }
@@ -46,6 +47,7 @@ fn compare_sheet(rt: &HostRuntime, case: &str) -> anyhow::Result<()> {
 }
 
 // Whether the listing of a sheet is the expected one.
+#[tactic(auto, using(crate::proofs::Fronts::front_compared))]
 pub fn has_listing(heap: Global, sheet: &[u8], expected: &[u8]) -> Result<bool, Unlisted>
     ensures { IfOk result (λ same. Decides same (sheet_listing sheet.now ≡ expected.now)) }
 {
@@ -63,6 +65,22 @@ mod tests {
     fn compares(rt: HostRuntime) -> Result<(), Fail> {
         assert!(rt; has_listing(rt.alloc(), b"", b"X P 1 0 8\n") == Ok(true));
         assert!(rt; has_listing(rt.alloc(), b"", b"") == Ok(false));
+        Ok(())
+    }
+
+    // The cases of a group come in the order of their names, and one that has no sheet differs.
+    #[test]
+    fn cases_without_a_sheet(rt: HostRuntime) -> anyhow::Result<()> {
+        fs::create_dir_all(&rt, "comparing-group/b")?;
+        fs::create_dir_all(&rt, "comparing-group/a")?;
+        let cases = cases_of(&rt, "comparing-group")?;
+        fs::remove_dir_all(&rt, "comparing-group")?;
+        assert!(rt; cases.len() == 2);
+        assert!(rt; cases[0].as_str() == "comparing-group/a");
+        assert!(rt; cases[1].as_str() == "comparing-group/b");
+        let tally = compare_sheets(&rt, &cases)?;
+        assert_eq!(rt; tally.compared, 2);
+        assert_eq!(rt; tally.differing, 2);
         Ok(())
     }
 }

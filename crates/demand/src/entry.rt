@@ -52,16 +52,22 @@ pub struct DemandEntry {
 }
 
 impl DemandEntry {
+    // What stands at a place of a book that is not in use.
+    pub const BLANK: DemandEntry = DemandEntry {
+        customer: 0,
+        end_day: 0,
+        tenths: 0,
+        mark: Mark::Estimated,
+        initial: false,
+    };
+
     // Whether the reading counts as estimated: its mark says so, or the entry directly before it in the book was read and
     // not reset, and the reading is not greater than that one's.
     pub fn counts_as_estimated(&self, before: Option<&DemandEntry>) -> bool
         ensures answer { result ≡ counts_as_estimated (held before.entry) self.now }
     {
-        match (self.mark, before) {
-            (Mark::Estimated, _) => true,
-            (_, Some(before)) => before.mark == Mark::NotReset && self.tenths <= before.tenths,
-            (_, None) => false,
-        }
+        self.mark == Mark::Estimated
+            || before.is_some_and(|b| b.mark == Mark::NotReset && self.tenths <= b.tenths)
     }
 }
 

@@ -11,7 +11,7 @@ pub mod question;
 use entry::DemandEntry;
 use estimating::first_then::FirstThen;
 use estimating::method::Method;
-use lookup::fit::Whose;
+use lookup::fit::Whose::{Anyone, Customer};
 use makes::{LastReading, LoadFactor, ShortInitial, YearBackReading};
 use measures::refusal;
 use question::{DemandAnswer, DemandQuestion};
@@ -28,10 +28,6 @@ pub type DemandMethod = FirstThen<
     >,
 >;
 
-const OWN: Whose = Whose::Customer;
-
-const ANY: Whose = Whose::Anyone;
-
 // The method of demand.
 pub fn demand_method() -> DemandMethod
     ensures answer { result ≡ demand_makes }
@@ -39,13 +35,13 @@ pub fn demand_method() -> DemandMethod
     FirstThen {
         first: ShortInitial,
         second: FirstThen {
-            first: LastReading { whose: OWN },
+            first: LastReading { whose: Customer },
             second: FirstThen {
-                first: YearBackReading { whose: OWN },
+                first: YearBackReading { whose: Customer },
                 second: FirstThen {
-                    first: LastReading { whose: ANY },
+                    first: LastReading { whose: Anyone },
                     second: FirstThen {
-                        first: YearBackReading { whose: ANY },
+                        first: YearBackReading { whose: Anyone },
                         second: LoadFactor,
                     },
                 },

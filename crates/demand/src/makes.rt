@@ -5,7 +5,7 @@ ghost use Rattle.demand.specs.Answers.{answer_at, short_initial, OnShortInitial,
 use crate::entry::DemandEntry;
 use crate::question::{DemandAnswer, DemandQuestion};
 use estimating::method::Method;
-use lookup::fit::{Fit, OfCustomer, Whose};
+use lookup::fit::{Fit, Whose};
 use lookup::{latest, place};
 
 // The fewest usage days of an initial period that has a demand of its own.
@@ -42,44 +42,34 @@ fn answer_at(
     ensures { result ≡ answer_at number whose question.now book.now (Some place) }
 {
     let reading = place::record_at(book, place)?;
-    let of_customer = OfCustomer {
-        whose,
-        customer: question.customer,
-    };
+    let of_customer = whose.of(question.customer);
     let before = place::record_before(book, place);
     if !of_customer.fit(reading) || reading.initial || reading.counts_as_estimated(before) {
         return None;
     }
     Some(DemandAnswer {
         number,
-        tenths: reading.tenths as u64,
+        tenths: u64::from(reading.tenths),
     })
 }
 
-fn by_last_reading(
-    whose: Whose,
-    book: &[DemandEntry],
-    question: &DemandQuestion,
-) -> Option<DemandAnswer>
-    ensures { result ≡ last_reading whose book.now question.now }
-{
-    let place = latest::newest_place(book)?;
-    answer_at(whose.pick(1, 3), whose, question, book, place)
+impl LastReading {
+    fn found(&self, book: &[DemandEntry], question: &DemandQuestion) -> Option<DemandAnswer>
+        ensures { result ≡ last_reading self.now.whose book.now question.now }
+    {
+        let place = latest::newest_place(book)?;
+        answer_at(self.whose.pick(1, 3), self.whose, question, book, place)
+    }
 }
 
-fn by_year_back(
-    whose: Whose,
-    book: &[DemandEntry],
-    question: &DemandQuestion,
-) -> Option<DemandAnswer>
-    ensures { result ≡ reading_year_back whose book.now question.now }
-{
-    let of_customer = OfCustomer {
-        whose,
-        customer: question.customer,
-    };
-    let place = latest::year_back_place(book, of_customer, question.end_day)?;
-    answer_at(whose.pick(2, 4), whose, question, book, place)
+impl YearBackReading {
+    fn found(&self, book: &[DemandEntry], question: &DemandQuestion) -> Option<DemandAnswer>
+        ensures { result ≡ reading_year_back self.now.whose book.now question.now }
+    {
+        let of_customer = self.whose.of(question.customer);
+        let place = latest::year_back_place(book, of_customer, question.end_day)?;
+        answer_at(self.whose.pick(2, 4), self.whose, question, book, place)
+    }
 }
 
 impl Method for ShortInitial {
@@ -95,13 +85,10 @@ impl Method for ShortInitial {
         ensures answer { result ≡ short_initial question.now }
         ensures meaning { OnShortInitial question.now result }
     {
-        if question.initial && question.usage_days < FEWEST_INITIAL_DAYS {
-            return Some(DemandAnswer {
-                number: 0,
-                tenths: 0,
-            });
-        }
-        None
+        (question.initial && question.usage_days < FEWEST_INITIAL_DAYS).then_some(DemandAnswer {
+            number: 0,
+            tenths: 0,
+        })
     }
 }
 
@@ -118,7 +105,7 @@ impl Method for LastReading {
         ensures answer { result ≡ last_reading self.now.whose book.now question.now }
         ensures meaning { OnLastReading self.now.whose book.now question.now result }
     {
-        by_last_reading(self.whose, book, question)
+        self.found(book, question)
     }
 }
 
@@ -135,7 +122,7 @@ impl Method for YearBackReading {
         ensures answer { result ≡ reading_year_back self.now.whose book.now question.now }
         ensures meaning { OnYearBack self.now.whose book.now question.now result }
     {
-        by_year_back(self.whose, book, question)
+        self.found(book, question)
     }
 }
 
@@ -156,10 +143,10 @@ impl Method for LoadFactor {
         if question.usage_days == 0 {
             return None;
         }
-        let hours = 24 * question.usage_days as u64;
+        let hours = 24 * u64::from(question.usage_days);
         Some(DemandAnswer {
             number: 6,
-            tenths: question.kwh as u64 * 1_000 / (hours * percent as u64),
+            tenths: u64::from(question.kwh) * 1_000 / (hours * u64::from(percent)),
         })
     }
 }
@@ -168,11 +155,8 @@ impl Method for LoadFactor {
 mod tests {
     use super::*;
     use crate::entry::Mark;
+    use lookup::fit::Whose::{Anyone, Customer};
     use measures::rate::Rate;
-
-    const OWN: Whose = Whose::Customer;
-
-    const ANY: Whose = Whose::Anyone;
 
     const fn read(customer: u32, end_day: u32, tenths: u32) -> DemandEntry {
         DemandEntry {
@@ -207,8 +191,8 @@ mod tests {
 
     #[test]
     fn very_last_reading(rt: HostRuntime) {
-        let own = LastReading { whose: OWN };
-        let any = LastReading { whose: ANY };
+        let own = LastReading { whose: Customer };
+        let any = LastReading { whose: Anyone };
         let book = [not_reset(2, 31, 40), read(1, 59, 41), read(2, 90, 30)];
         assert_eq!(rt; own.answer(&book[0..2], &QUESTION), answer(1, 41));
         assert_eq!(rt; any.answer(&book[0..2], &QUESTION), answer(3, 41));
@@ -225,8 +209,8 @@ mod tests {
 
     #[test]
     fn month_a_year_back(rt: HostRuntime) {
-        let own = YearBackReading { whose: OWN };
-        let any = YearBackReading { whose: ANY };
+        let own = YearBackReading { whose: Customer };
+        let any = YearBackReading { whose: Anyone };
         let mut book = [
             read(1, 31, 50),
             read(1, 59, 41),

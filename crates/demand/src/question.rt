@@ -27,7 +27,7 @@ impl DemandQuestion {
         self.kwh < KWH_TOO_MANY
             && self.end_day <= LAST_DAY
             && self.usage_days >= 1
-            && self.usage_days <= MOST_USAGE_DAYS as u32
+            && self.usage_days <= u32::from(MOST_USAGE_DAYS)
     }
 }
 

@@ -15,10 +15,7 @@ pub fn numbers_of<const N: usize>(line: &[u8]) -> Option<[u32; N]>
     for number in numbers.iter_mut() {
         *number = number_of(rest.next()?)?;
     }
-    match rest.next() {
-        None => Some(numbers),
-        Some(_) => None,
-    }
+    rest.next().is_none().then_some(numbers)
 }
 
 // The numbers of a line of any length, none where it is empty.

@@ -14,7 +14,8 @@ use Rattle.judging.specs.Judgements.{half_higher}
 use Rattle.premise.specs.declared.file.PremiseFile.{PremiseFile}
 use Rattle.premise.specs.Files.{misses}
 use Rattle.demand.specs.Demand.{demand_of}
-use Rattle.clerk.specs.Jobs.{Standard, standard_table, blank_book, opened_by}
+use Rattle.ladder.specs.Ladder.{Standard, standard_table}
+use Rattle.clerk.specs.Jobs.{blank_book, opened_by}
 
 -- the shares of a total over records that are known by their weight and share alone
 abbrev pub shares_of : ℕ → List (ℕ × ℕ) → List (ℕ × ℕ)

@@ -4,6 +4,7 @@
 ghost use Rattle.edges.specs.Figures.{Figures};
 
 // That the figures stand. It answers how many rows their table has.
+#[tactic(auto, using(crate::proofs::Table::figures))]
 pub fn figures_stand() -> u8
     ensures { Figures }
 {

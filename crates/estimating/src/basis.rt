@@ -13,6 +13,11 @@ pub struct Question {
     pub rate: Rate,
 }
 
+// The most kWh, and the most days, of a basis.
+pub const MOST_KWH: u32 = 1_000_000_000;
+
+pub const MOST_DAYS: u16 = 999;
+
 // What an estimate is made from: so many kWh in so many days, found on a rung.
 #[derive(Clone, Copy, PartialEq, Eq, Debug)]
 pub struct Basis {
@@ -30,7 +35,7 @@ impl Basis {
         if self.days == 0 {
             return None;
         }
-        Some(self.kwh as u64 * usage_days as u64 / self.days as u64)
+        Some(u64::from(self.kwh) * u64::from(usage_days) / u64::from(self.days))
     }
 }
 

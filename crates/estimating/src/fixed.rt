@@ -2,7 +2,7 @@
 ghost use Rattle.std.specs.Prelude.{◌≡◌, ◌≤◌, Some, MatchResult};
 ghost use Rattle.std.proofs.Common.{rules};
 
-use crate::basis::{Basis, Question};
+use crate::basis::{Basis, MOST_DAYS, MOST_KWH, Question};
 use crate::method::{EnergyMethod, Method};
 use measures::entry::Entry;
 use measures::refusal;
@@ -24,7 +24,7 @@ impl Fixed {
     pub fn new(kwh: u32, days: u16) -> Result<Fixed, u8>
         ensures answer { MatchResult result (λ f. (f.kwh ≡ kwh) × (f.days ≡ days)) (λ e. (e ≡ 30) × (kwh ≤ 1000000000 → 1 ≤ days → days ≤ 999 → ⊥)) }
     {
-        if kwh > 1_000_000_000 || days < 1 || days > 999 {
+        if kwh > MOST_KWH || days < 1 || days > MOST_DAYS {
             return Err(refusal::BOUNDS);
         }
         Ok(Fixed { kwh, days })

@@ -8,6 +8,6 @@ pub(crate) fn number_of(outcome: Result<u64, u8>) -> i64
 {
     match outcome {
         Ok(number) => number as i64,
-        Err(refusal) => -(refusal as i64),
+        Err(refusal) => -i64::from(refusal),
     }
 }

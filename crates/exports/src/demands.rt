@@ -50,26 +50,16 @@ impl From<Reading> for DemandEntry {
     }
 }
 
-const BLANK: DemandEntry = DemandEntry {
-    customer: 0,
-    end_day: 0,
-    tenths: 0,
-    mark: Mark::Estimated,
-    initial: false,
-};
-
 // The demand of a period on the rate of that name. It answers the answer's number, and writes its tenths of a kW.
 pub fn pekstuvna_demand(book: &[Reading], period: &Period, rate: &[u8], tenths: &mut u64) -> i64
     ensures answer { result ≡ answered (number_in (demanded (map entry_of book.now) period.now rate.now)) }
     ensures after { tenths.new ≡ tenths_in (demanded (map entry_of book.now) period.now rate.now) tenths.old }
 {
-    match demanded(book, period, rate) {
-        Ok(answer) => {
-            *tenths = answer.tenths;
-            number_of(Ok(answer.number as u64))
-        }
-        Err(number) => number_of(Err(number)),
+    let outcome = demanded(book, period, rate);
+    if let Ok(answer) = outcome {
+        *tenths = answer.tenths;
     }
+    number_of(outcome.map(|answer| u64::from(answer.number)))
 }
 
 fn demanded(book: &[Reading], period: &Period, rate: &[u8]) -> Result<DemandAnswer, u8>
@@ -94,17 +84,17 @@ fn demanded(book: &[Reading], period: &Period, rate: &[u8]) -> Result<DemandAnsw
 fn too_long(customer: u32) -> u8
     ensures { result ≡ too_long customer }
 {
-    if customer == 0 {
-        return refusal::CUSTOMER;
+    match customer {
+        0 => refusal::CUSTOMER,
+        _ => refusal::DEMAND_BOOK,
     }
-    refusal::DEMAND_BOOK
 }
 
 fn demand_in(book: &[Reading], question: &DemandQuestion) -> Result<DemandAnswer, u8>
     requires { length book.now ≤ 240 }
     ensures { result ≡ demand_of (map entry_of book.now) question.now }
 {
-    let mut copy = [BLANK; MOST_ENTRIES];
+    let mut copy = [DemandEntry::BLANK; MOST_ENTRIES];
     let entries = &mut copy[..book.len()];
     copy_from(book, entries);
     demand_of(entries, question)

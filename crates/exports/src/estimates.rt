@@ -4,11 +4,8 @@ ghost use Rattle.exports.specs.Answers.{answered};
 ghost use Rattle.exports.specs.Estimates.{estimated};
 
 use crate::answer::number_of;
+use estimating::basis::{MOST_DAYS, MOST_KWH};
 use measures::refusal;
-
-const MOST_KWH: u32 = 1_000_000_000;
-
-const MOST_DAYS: u32 = 999;
 
 // The kWh that so many kWh in so many days give for so many usage days, rounded down.
 pub fn pekstuvna_estimate(kwh: u32, days: u32, usage_days: u32) -> i64
@@ -21,8 +18,8 @@ fn estimated(kwh: u32, days: u32, usage_days: u32) -> Result<u64, u8>
     ensures value { result ≡ estimated kwh days usage_days }
     ensures few { IfOk result (λ n. n < 2 ^ 63) }
 {
-    if kwh > MOST_KWH || days < 1 || days > MOST_DAYS {
+    if kwh > MOST_KWH || !(1..=u32::from(MOST_DAYS)).contains(&days) {
         return Err(refusal::BOUNDS);
     }
-    Ok(kwh as u64 * usage_days as u64 / days as u64)
+    Ok(u64::from(kwh) * u64::from(usage_days) / u64::from(days))
 }

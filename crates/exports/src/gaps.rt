@@ -1,5 +1,5 @@
 // The missing intervals of a month filled, for C.
-ghost use Rattle.std.specs.Prelude.{◌≡◌, ◌^◌, ◌<◌, map, is_ok, IfOk, if◌then◌else◌};
+ghost use Rattle.std.specs.Prelude.{◌≡◌, map, is_ok, if◌then◌else◌};
 ghost use Rattle.intervals.specs.Intervals.{answer, filled};
 ghost use Rattle.exports.specs.Answers.{answered};
 ghost use Rattle.exports.specs.Gaps.{interval_of, metered_of, month_of, too_long};
@@ -8,11 +8,11 @@ use crate::answer::number_of;
 use crate::copy::copy_from;
 use intervals::fill::fill;
 use intervals::interval::{Interval, Mark};
-use intervals::month::Month;
+use intervals::month::{MOST_DAYS, Month};
 use measures::refusal;
 
-// The most intervals of a list: 35 days of 96 slots.
-const MOST_INTERVALS: usize = 3_360;
+// The most intervals of a list: 96 for each day.
+const MOST_INTERVALS: usize = MOST_DAYS * 96;
 
 // One interval of a meter. Mark 0 is valid, 1 missing, and any other filled.
 #[repr(C)]
@@ -51,16 +51,10 @@ impl From<Interval> for Metered {
         Metered {
             wh: interval.wh,
             weight: interval.weight,
-            mark: u8::from(interval.mark) as u32,
+            mark: u32::from(u8::from(interval.mark)),
         }
     }
 }
-
-const BLANK: Interval = Interval {
-    wh: 0,
-    weight: 0,
-    mark: Mark::Valid,
-};
 
 // Fills the missing intervals of a month by its reference days, and answers how many.
 pub fn pekstuvna_fill<'a>(
@@ -81,25 +75,24 @@ pub fn pekstuvna_fill<'a>(
         holidays,
         total: month.total,
     };
-    number_of(fill_list(&month, intervals))
+    number_of(fill_list(&month, intervals).map(u64::from))
 }
 
 // Fills a list by way of a copy; a list that is too long is not copied.
-fn fill_list(month: &Month, intervals: &mut [Metered]) -> Result<u64, u8>
+fn fill_list(month: &Month, intervals: &mut [Metered]) -> Result<u32, u8>
     ensures value { result ≡ answer month.now (map interval_of intervals.old) }
     ensures after { intervals.new ≡ (if is_ok result then map metered_of (filled month.now (map interval_of intervals.old)) else intervals.old) }
-    ensures few { IfOk result (λ n. n < 2 ^ 63) }
 {
     let count = intervals.len();
     if count > MOST_INTERVALS {
         return Err(too_long(month));
     }
-    let mut own = [BLANK; MOST_INTERVALS];
+    let mut own = [Interval::BLANK; MOST_INTERVALS];
     let list = &mut own[..count];
     copy_from(intervals, list);
     let filled = fill(month, list)?;
     copy_from(list, intervals);
-    Ok(filled as u64)
+    Ok(filled)
 }
 
 // The refusal of a list with more intervals than 35 days have.

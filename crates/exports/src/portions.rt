@@ -53,8 +53,5 @@ pub fn pekstuvna_share_out(total: u32, portions: &mut [Portion]) -> i64
     ensures after { portions.new ≡ (if is_ok (verdict portion_takes_part portion_weight total portions.old) then shared portion_takes_part portion_weight portion_given total portions.old else portions.old) }
     ensures promise { is_ok (verdict portion_takes_part portion_weight total portions.old) ≡ true → SharedOut portion_takes_part portion_weight portion_share total portions.old portions.new }
 {
-    match share_out(total, portions) {
-        Ok(()) => number_of(Ok(0)),
-        Err(number) => number_of(Err(number)),
-    }
+    number_of(share_out(total, portions).map(|()| 0))
 }

@@ -17,9 +17,9 @@ pub fn pekstuvna_list_sheet(heap: Global, sheet: &[u8], listing: &mut [u8]) -> i
     ensures answer { ListedFor (sheet_listing sheet.now) listing.old listing.new result }
     ensures history { LawfulSheet sheet.now }
 {
-    match list_sheet(heap, sheet, listing) {
-        Ok(count) => number_of(Ok(count as u64)),
-        Err(Unlisted::Memory) => number_of(Err(NO_MEMORY)),
-        Err(Unlisted::Buffer) => number_of(Err(refusal::LISTING)),
-    }
+    let listed = list_sheet(heap, sheet, listing).map_err(|unlisted| match unlisted {
+        Unlisted::Memory => NO_MEMORY,
+        Unlisted::Buffer => refusal::LISTING,
+    });
+    number_of(listed.map(|count| count as u64))
 }

@@ -13,10 +13,7 @@ pub fn number_of(field: &[u8]) -> Option<u32>
 fn written(field: &[u8]) -> Option<u32>
     ensures { Tells field.now result }
 {
-    if field.is_empty() {
-        return None;
-    }
-    if field[0] == b'0' && field.len() > 1 {
+    if let [] | [b'0', _, ..] = field {
         return None;
     }
     let mut number: u32 = 0;

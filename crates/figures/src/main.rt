@@ -4,7 +4,7 @@
 
 use anyhow::anyhow;
 use comparing::{cases_of, compare_sheets};
-use tallies::report::{Group, end};
+use tallies::report::{Group, add_group, end};
 use tallies::tally::Tally;
 
 // The groups of sheets.
@@ -39,8 +39,7 @@ fn run(rt: &HostRuntime) -> anyhow::Result<()> {
             cases: "sheets",
             tally,
         };
-        println!(rt; "{group}")?;
-        all += tally;
+        add_group(rt, &mut all, group)?;
     }
     end(rt, all)
 }

@@ -1,8 +1,9 @@
 // What stands on standard input: four lines for the month, and a line for each of its intervals.
 use desk::fault::Fault;
+use desk::lines::head_and_lines;
 use desk::numbers::{list_of, numbers_of};
-use desk::pieces::lines_in;
 use intervals::interval::{Interval, Mark};
+use intervals::month::Month;
 use std::alloc::Global;
 use thiserror::Error;
 
@@ -11,13 +12,32 @@ pub const MOST_BYTES: usize = 150_000;
 
 #[derive(Drop)]
 pub struct Job {
-    pub slots: u32,
-    pub first_day: u32,
-    pub total: u32,
-    pub weekday: Vec<u32>,
-    pub weekend: Vec<u32>,
-    pub holidays: Vec<u32>,
+    pub month: OwnedMonth,
     pub intervals: Vec<Interval>,
+}
+
+// A month with the lists that it lends.
+#[derive(Drop)]
+pub struct OwnedMonth {
+    slots: u32,
+    first_day: u32,
+    weekday: Vec<u32>,
+    weekend: Vec<u32>,
+    holidays: Vec<u32>,
+    total: u32,
+}
+
+impl OwnedMonth {
+    pub fn as_month(&self) -> Month<'_> {
+        Month {
+            slots: self.slots,
+            first_day: self.first_day,
+            weekday: self.weekday.as_slice(),
+            weekend: self.weekend.as_slice(),
+            holidays: self.holidays.as_slice(),
+            total: self.total,
+        }
+    }
 }
 
 // What is wrong with a line of the input.
@@ -37,43 +57,37 @@ pub enum Wrong {
 
 // The job that the bytes ask for. The LF at their end may be left out.
 pub fn read_job(heap: Global, bytes: &[u8]) -> Result<Job, Fault<Wrong>> {
-    if bytes.len() > MOST_BYTES {
-        return Err(Fault::Line(1, Wrong::Long));
-    }
-    let mut lines = lines_in(bytes);
-    let [slots, first_day, total] = numbers_of::<3>(lines.next().unwrap_or(b"")).ok_or(Fault::Line(
-        1,
-        Wrong::Month,
-    ))?;
-    let weekday = numbers_on(heap, lines.next(), Fault::Line(2, Wrong::Reference))?;
-    let weekend = numbers_on(heap, lines.next(), Fault::Line(3, Wrong::Reference))?;
-    let holidays = numbers_on(heap, lines.next(), Fault::Line(4, Wrong::Holidays))?;
-    let mut intervals = Vec::new(heap);
-    for (place, line) in (5usize..).zip(lines) {
-        let [wh, weight, mark] = numbers_of::<3>(line).ok_or(Fault::Line(place, Wrong::Interval))?;
-        intervals.push(Interval {
-            wh,
-            weight,
-            mark: Mark::from(mark),
-        })?;
-    }
-    Ok(Job {
+    let (head, mut lines) = head_and_lines(bytes, MOST_BYTES, Wrong::Long)?;
+    let [slots, first_day, total] = numbers_of::<3>(head).ok_or(Fault::Line(1, Wrong::Month))?;
+    let month = OwnedMonth {
         slots,
         first_day,
+        weekday: numbers_on(heap, lines.next(), Fault::Line(2, Wrong::Reference))?,
+        weekend: numbers_on(heap, lines.next(), Fault::Line(3, Wrong::Reference))?,
+        holidays: numbers_on(heap, lines.next(), Fault::Line(4, Wrong::Holidays))?,
         total,
-        weekday,
-        weekend,
-        holidays,
-        intervals,
-    })
+    };
+    let intervals = lines
+        .map(|(place, line)| interval_of(line).ok_or(Fault::Line(place, Wrong::Interval)))
+        .try_collect(heap)?;
+    Ok(Job { month, intervals })
 }
 
 // The numbers of a line; the fault where it has something else or is not there.
 fn numbers_on(
     heap: Global,
-    line: Option<&[u8]>,
+    line: Option<(usize, &[u8])>,
     fault: Fault<Wrong>,
 ) -> Result<Vec<u32>, Fault<Wrong>> {
-    let line = line.ok_or(fault)?;
+    let (_, line) = line.ok_or(fault)?;
     list_of(heap, line)?.ok_or(fault)
+}
+
+fn interval_of(line: &[u8]) -> Option<Interval> {
+    let [wh, weight, mark] = numbers_of::<3>(line)?;
+    Some(Interval {
+        wh,
+        weight,
+        mark: Mark::from(mark),
+    })
 }

@@ -19,22 +19,13 @@ use desk::fault::Fault;
 use input::{MOST_BYTES, Wrong};
 use intervals::fill::fill;
 use intervals::interval::Interval;
-use intervals::month::Month;
 use std::alloc::{AllocError, Global};
 use std::process::ExitCode;
 
 // What the program prints for the bytes of its input: the filled month, or N and the refusal's number.
 fn listing(heap: Global, bytes: &[u8]) -> Result<String, Fault<Wrong>> {
     let mut job = input::read_job(heap, bytes)?;
-    let month = Month {
-        slots: job.slots,
-        first_day: job.first_day,
-        weekday: job.weekday.as_slice(),
-        weekend: job.weekend.as_slice(),
-        holidays: job.holidays.as_slice(),
-        total: job.total,
-    };
-    match fill(&month, job.intervals.as_mut_slice()) {
+    match fill(&job.month.as_month(), job.intervals.as_mut_slice()) {
         Ok(filled) => Ok(written(heap, filled, job.intervals.as_slice())?),
         Err(number) => Ok(format!(in heap; "N {number}\n")?),
     }
@@ -100,13 +91,11 @@ mod tests {
         line: usize,
         wrong: Wrong,
     ) -> Result<(), Fail> {
-        match listing(rt.alloc(), bytes) {
-            Ok(_) => Err(Fail::new("the input is not refused")),
-            Err(fault) => {
-                assert_eq!(rt; fault, Fault::Line(line, wrong));
-                Ok(())
-            },
-        }
+        assert_eq!(rt;
+            listing(rt.alloc(), bytes).err(),
+            Some(Fault::Line(line, wrong))
+        );
+        Ok(())
     }
 
     // Of 142 Wh 10 are left: 3 and 7 by weights 1 and 2 on the Sunday and on the holiday, 7 and 3 by weights 3 and 1 on a Monday.

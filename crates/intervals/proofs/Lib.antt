@@ -2,3 +2,4 @@ pub mod Marks
 pub mod Known
 pub mod Filling
 pub mod Sums
+pub mod Rising

@@ -67,14 +67,7 @@ fn is_within(wh: u32) -> bool
 fn are_rising(days: &[u32]) -> bool
     ensures { result ≡ rising_from 0 days.now }
 {
-    let mut from: u64 = 0;
-    for day in days {
-        if (*day as u64) < from {
-            return false;
-        }
-        from = *day as u64 + 1;
-    }
-    true
+    days.is_sorted_by(|day, next| *day < *next)
 }
 
 // Whether each interval is valid, and its Wh are not too high, or missing.

@@ -38,7 +38,7 @@ impl Checked<'_, '_> {
     fn sum_valid(&self) -> u64
         ensures { result ≡ valid_wh self.now.intervals.now }
     {
-        self.intervals.iter().map(|x| if_valid(x) as u64).sum()
+        self.intervals.iter().map(|x| u64::from(if_valid(x))).sum()
     }
 
     // The references of the missing intervals together.
@@ -48,7 +48,7 @@ impl Checked<'_, '_> {
         let mut sum: u64 = 0;
         for (place, interval) in self.intervals.iter().enumerate() {
             if interval.is_missing() {
-                sum += self.month.reference(place) as u64;
+                sum += u64::from(self.month.reference(place));
             }
         }
         sum
@@ -65,9 +65,7 @@ pub fn fill(month: &Month, intervals: &mut [Interval]) -> Result<u32, u8>
     let missing = known.count_missing();
     let left = left_over(month.total, missing, known.sum_valid(), known.sum_weights())?;
     weigh(month, intervals);
-    let Ok(()) = share_out(left, intervals) else {
-        unreachable()
-    };
+    share_out(left, intervals).unwrap();
     Ok(missing)
 }
 
@@ -78,10 +76,10 @@ fn left_over(total: u32, gaps: u32, metered: u64, weights: u64) -> Result<u32, u
     if gaps == 0 {
         return Err(refusal::NONE_MISSING);
     }
-    if metered > total as u64 {
+    if metered > u64::from(total) {
         return Err(refusal::OVER_TOTAL);
     }
-    let left = total as u64 - metered;
+    let left = u64::from(total) - metered;
     if left > 0 && weights == 0 {
         return Err(refusal::NO_WEIGHT);
     }

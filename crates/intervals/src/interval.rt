@@ -50,6 +50,13 @@ pub struct Interval {
 }
 
 impl Interval {
+    // What stands at a place of a list that is not in use.
+    pub const BLANK: Interval = Interval {
+        wh: 0,
+        weight: 0,
+        mark: Mark::Valid,
+    };
+
     pub fn is_valid(&self) -> bool
         ensures answer { result ≡ valid self.now }
     {

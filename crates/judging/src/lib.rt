@@ -68,7 +68,7 @@ impl Judgement for ByDay {
 
     fn is_higher(&self, advance: u64, open_sum: u64, usage_days: u64) -> bool {
         is_judged(advance, open_sum, usage_days)
-            && advance > open_sum + self.limit as u64 * usage_days
+            && advance > open_sum + u64::from(self.limit) * usage_days
     }
 }
 

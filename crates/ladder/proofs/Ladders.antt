@@ -5,15 +5,10 @@ use Rattle.measures.specs.Rate.{class_kwh}
 use Rattle.estimating.specs.declared.basis.Question.{Question}
 use Rattle.estimating.specs.declared.basis.Basis.{Basis}
 use Rattle.estimating.specs.Tables.{first_then, first_among}
-use Rattle.estimating.specs.declared.first_then.FirstThen.{FirstThen}
-use Rattle.ladder.specs.declared.rungs.LastEntry.{LastEntry}
-use Rattle.ladder.specs.declared.rungs.YearBack.{YearBack}
-use Rattle.ladder.specs.declared.rungs.Seasonal.{Seasonal}
-use Rattle.ladder.specs.declared.rungs.ClassFigure.{ClassFigure}
 use Rattle.lookup.specs.declared.fit.Whose.{Whose}
 use Rattle.lookup.specs.declared.fit.Whose.TheVariants.{Customer, Anyone}
 use Rattle.ladder.specs.Rungs.{rung_for, last_entry, from_year_back, seasonal, basis_a_day, class_figure}
-use Rattle.ladder.specs.Ladder.{standard_rungs, standard, rung_answers, ByTheLadder}
+use Rattle.ladder.specs.Ladder.{standard_rungs, standard_table, standard, rung_answers, ByTheLadder}
 use Rattle.estimating.specs.Cases.{none_some}
 use Rattle.estimating.proofs.Firsts.{first_then_none, found, found_first, none_found, none_first}
 use Rattle.ladder.specs.Meanings.{last_entry_law, year_back_law, seasonal_law}
@@ -42,18 +37,8 @@ number book q (suc (suc (suc (suc (suc zero))))) b e = seasonal_number Anyone bo
 number book q (suc (suc (suc (suc (suc (suc zero)))))) b e = class_number (class_kwh q.rate) b e
 number book q (suc (suc (suc (suc (suc (suc (suc i))))))) b e = none_some None b refl e
 
--- what such rungs answer, asked in turn
-abbrev pub in_turn : FirstThen LastEntry (FirstThen YearBack (FirstThen Seasonal (FirstThen LastEntry (FirstThen YearBack (FirstThen Seasonal ClassFigure))))) → List Entry → Question → Option Basis
-in_turn m book q =
-    first_then (last_entry m.first.whose book q)
-    (first_then (from_year_back m.second.first.whose book q)
-    (first_then (seasonal m.second.second.first.whose book q)
-    (first_then (last_entry m.second.second.second.first.whose book q)
-    (first_then (from_year_back m.second.second.second.second.first.whose book q)
-    (first_then (seasonal m.second.second.second.second.second.first.whose book q) (class_figure q))))))
-
-pub in_turn_standard : (m : _) (book : List Entry) (q : Question) → m ≡ standard_rungs → in_turn m book q ≡ standard book q
-in_turn_standard m book q e = ap (λ z. in_turn z book q) e
+pub table_standard : (m : _) (book : List Entry) (q : Question) → m ≡ standard_rungs → standard_table m book q ≡ standard book q
+table_standard m book q e = ap (λ z. standard_table z book q) e
 
 standard_is : (book : List Entry) (q : Question) → standard book q ≡ first_among (rung_answers book q)
 standard_is book q =

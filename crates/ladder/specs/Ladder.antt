@@ -1,5 +1,7 @@
 -- The standard method: the seven rungs, asked one after the other.
+--   Standard               the type of the method
 --   standard_rungs         the rungs in the order in which they are asked
+--   standard_table m       what such rungs answer
 --   standard book q        the answer of the first rung that has one
 --   rung_answers book q    what each rung by itself answers, in order
 --   rung_answer n book q   what rung n by itself answers
@@ -18,7 +20,10 @@ use Rattle.ladder.specs.declared.rungs.ClassFigure.{ClassFigure}
 use Rattle.lookup.specs.declared.fit.Whose.TheVariants.{Customer, Anyone}
 use Rattle.ladder.specs.Rungs.{last_entry, from_year_back, seasonal, class_figure}
 
-abbrev pub standard_rungs : FirstThen LastEntry (FirstThen YearBack (FirstThen Seasonal (FirstThen LastEntry (FirstThen YearBack (FirstThen Seasonal ClassFigure)))))
+abbrev pub Standard : Type 0
+Standard = FirstThen LastEntry (FirstThen YearBack (FirstThen Seasonal (FirstThen LastEntry (FirstThen YearBack (FirstThen Seasonal ClassFigure)))))
+
+abbrev pub standard_rungs : Standard
 standard_rungs = record {
   first = record { whose = Customer };
   second = record {
@@ -35,6 +40,16 @@ standard_rungs = record {
     };
   };
 }
+
+-- what such rungs answer, asked in turn
+abbrev pub standard_table : Standard → List Entry → Question → Option Basis
+standard_table m book q =
+    first_then (last_entry m.first.whose book q)
+    (first_then (from_year_back m.second.first.whose book q)
+    (first_then (seasonal m.second.second.first.whose book q)
+    (first_then (last_entry m.second.second.second.first.whose book q)
+    (first_then (from_year_back m.second.second.second.second.first.whose book q)
+    (first_then (seasonal m.second.second.second.second.second.first.whose book q) (class_figure q))))))
 
 abbrev pub standard : List Entry → Question → Option Basis
 standard book q =

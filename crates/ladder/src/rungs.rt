@@ -6,7 +6,7 @@ ghost use Rattle.std.proofs.Common.{rules};
 
 use estimating::basis::{Basis, Question};
 use estimating::method::{EnergyMethod, Method};
-use lookup::fit::{Available, Fit, OfCustomer, Whose};
+use lookup::fit::{Available, Fit, Whose};
 use lookup::six::SIX;
 use lookup::{latest, six};
 use measures::entry::Entry;
@@ -45,55 +45,49 @@ fn basis_of(rung: u8, found: &Entry) -> Basis
     Basis {
         rung,
         kwh: found.kwh,
-        days: found.usage_days as u16,
+        days: u16::from(found.usage_days),
     }
 }
 
-fn by_last_entry(whose: Whose, book: &[Entry], question: &Question) -> Option<Basis>
-    ensures { result ≡ last_entry whose book.now question.now }
-{
-    let last = latest::newest(book)?;
-    let of_customer = OfCustomer {
-        whose,
-        customer: question.customer,
-    };
-    if of_customer.fit(last) && Available.fit(last) && !last.initial {
-        return Some(basis_of(whose.pick(1, 4), last));
+impl LastEntry {
+    fn basis(&self, book: &[Entry], question: &Question) -> Option<Basis>
+        ensures { result ≡ last_entry self.now.whose book.now question.now }
+    {
+        let last = latest::newest(book)?;
+        let of_customer = self.whose.of(question.customer);
+        let serves = of_customer.fit(last) && Available.fit(last) && !last.initial;
+        serves.then_some(basis_of(self.whose.pick(1, 4), last))
     }
-    None
 }
 
-fn by_year_back(whose: Whose, book: &[Entry], question: &Question) -> Option<Basis>
-    ensures { result ≡ from_year_back whose book.now question.now }
-{
-    let of_customer = OfCustomer {
-        whose,
-        customer: question.customer,
-    };
-    let found = latest::year_back(book, of_customer, question.end_day as u32)?;
-    if Available.fit(found) {
-        return Some(basis_of(whose.pick(2, 5), found));
+impl YearBack {
+    fn basis(&self, book: &[Entry], question: &Question) -> Option<Basis>
+        ensures { result ≡ from_year_back self.now.whose book.now question.now }
+    {
+        let of_customer = self.whose.of(question.customer);
+        let found = latest::year_back(book, of_customer, u32::from(question.end_day))?;
+        Available
+            .fit(found)
+            .then_some(basis_of(self.whose.pick(2, 5), found))
     }
-    None
 }
 
-fn by_season(whose: Whose, book: &[Entry], question: &Question) -> Option<Basis>
-    ensures { result ≡ seasonal whose book.now question.now }
-{
-    let season = calendar::season_of(question.end_day as u32)?;
-    let of_customer = OfCustomer {
-        whose,
-        customer: question.customer,
-    };
-    let six = six::seasonal_sum(book, of_customer, season);
-    if six.count == SIX && six.usage_days >= FEWEST_DAYS && six.usage_days <= MOST_DAYS {
-        return Some(Basis {
-            rung: whose.pick(3, 6),
-            kwh: six.kwh as u32,
-            days: six.usage_days as u16,
-        });
+impl Seasonal {
+    fn basis(&self, book: &[Entry], question: &Question) -> Option<Basis>
+        ensures { result ≡ seasonal self.now.whose book.now question.now }
+    {
+        let season = calendar::season_of(u32::from(question.end_day))?;
+        let of_customer = self.whose.of(question.customer);
+        let six = six::seasonal_sum(book, of_customer, season);
+        if six.count == SIX && six.usage_days >= FEWEST_DAYS && six.usage_days <= MOST_DAYS {
+            return Some(Basis {
+                rung: self.whose.pick(3, 6),
+                kwh: six.kwh as u32,
+                days: six.usage_days as u16,
+            });
+        }
+        None
     }
-    None
 }
 
 impl Method for LastEntry {
@@ -109,7 +103,7 @@ impl Method for LastEntry {
         ensures answer { result ≡ last_entry self.now.whose book.now question.now }
         ensures meaning { OnLastEntry self.now.whose book.now question.now result }
     {
-        by_last_entry(self.whose, book, question)
+        self.basis(book, question)
     }
 }
 
@@ -126,7 +120,7 @@ impl Method for YearBack {
         ensures answer { result ≡ from_year_back self.now.whose book.now question.now }
         ensures meaning { OnYearBack self.now.whose book.now question.now result }
     {
-        by_year_back(self.whose, book, question)
+        self.basis(book, question)
     }
 }
 
@@ -143,7 +137,7 @@ impl Method for Seasonal {
         ensures answer { result ≡ seasonal self.now.whose book.now question.now }
         ensures meaning { OnSeasonal self.now.whose book.now question.now result }
     {
-        by_season(self.whose, book, question)
+        self.basis(book, question)
     }
 }
 
@@ -186,12 +180,9 @@ impl EnergyMethod for ClassFigure {
 #[cfg(test)]
 mod tests {
     use super::*;
+    use lookup::fit::Whose::{Anyone, Customer};
     use measures::entry::Kind;
     use measures::rate::Rate;
-
-    const OWN: Whose = Whose::Customer;
-
-    const ANY: Whose = Whose::Anyone;
 
     // An estimated entry: such entries count as any other.
     const fn entry(customer: u32, end_day: u16, usage_days: u8, kwh: u32) -> Entry {
@@ -232,35 +223,35 @@ mod tests {
     fn very_last_entry(rt: HostRuntime) {
         let own = [entry(2, 60, 31, 400), entry(1, 90, 30, 350)];
         assert_eq!(rt;
-            LastEntry { whose: OWN }.answer(&own, &until(120)),
+            LastEntry { whose: Customer }.answer(&own, &until(120)),
             basis(1, 350, 30)
         );
         assert_eq!(rt;
-            LastEntry { whose: ANY }.answer(&own, &until(120)),
+            LastEntry { whose: Anyone }.answer(&own, &until(120)),
             basis(4, 350, 30)
         );
         let other = [entry(1, 60, 31, 400), entry(2, 90, 30, 350)];
         assert_eq!(rt;
-            LastEntry { whose: OWN }.answer(&other, &until(120)),
+            LastEntry { whose: Customer }.answer(&other, &until(120)),
             None,
             "no further back"
         );
         assert_eq!(rt;
-            LastEntry { whose: ANY }.answer(&other, &until(120)),
+            LastEntry { whose: Anyone }.answer(&other, &until(120)),
             basis(4, 350, 30)
         );
         let first = [initial(1, 90, 30, 350)];
         assert_eq!(rt;
-            LastEntry { whose: OWN }.answer(&first, &until(120)),
+            LastEntry { whose: Customer }.answer(&first, &until(120)),
             None,
             "initial"
         );
-        assert_eq!(rt; LastEntry { whose: ANY }.answer(&[], &until(120)), None);
+        assert_eq!(rt; LastEntry { whose: Anyone }.answer(&[], &until(120)), None);
     }
 
     #[test]
     fn available_entries(rt: HostRuntime) {
-        let rung = LastEntry { whose: OWN };
+        let rung = LastEntry { whose: Customer };
         assert_eq!(rt;
             rung.answer(&[entry(1, 90, 1, 0)], &until(120)),
             basis(1, 0, 1)
@@ -284,7 +275,7 @@ mod tests {
     // 30 is 31 January 2000, 31 and 59 the first and the last day of February, 60 is 1 March.
     #[test]
     fn month_a_year_back(rt: HostRuntime) {
-        let rung = YearBack { whose: OWN };
+        let rung = YearBack { whose: Customer };
         let book = [
             entry(1, 30, 30, 310),
             entry(1, 31, 31, 320),
@@ -319,14 +310,14 @@ mod tests {
             "there is no year before 2000"
         );
         assert_eq!(rt;
-            YearBack { whose: ANY }.answer(&book, &until(424)),
+            YearBack { whose: Anyone }.answer(&book, &until(424)),
             basis(5, 280, 28)
         );
     }
 
     #[test]
     fn in_the_way_a_year_back(rt: HostRuntime) {
-        let rung = YearBack { whose: OWN };
+        let rung = YearBack { whose: Customer };
         let put_off = [entry(1, 31, 31, 320), entry(1, 59, 0, 0)];
         assert_eq!(rt;
             rung.answer(&put_off, &until(424)),
@@ -355,7 +346,7 @@ mod tests {
     // 150 to 304 are days of May to October 2000, 335 of December; 516 is 31 May 2001.
     #[test]
     fn six_of_the_season(rt: HostRuntime) {
-        let rung = Seasonal { whose: OWN };
+        let rung = Seasonal { whose: Customer };
         let book = [
             entry(1, 130, 30, 9_999),
             entry(1, 150, 30, 100),
@@ -385,14 +376,14 @@ mod tests {
             "five entries"
         );
         assert_eq!(rt;
-            Seasonal { whose: ANY }.answer(&book, &until(516)),
+            Seasonal { whose: Anyone }.answer(&book, &until(516)),
             basis(6, 11_000, 181)
         );
     }
 
     #[test]
     fn days_of_the_six(rt: HostRuntime) {
-        let rung = Seasonal { whose: OWN };
+        let rung = Seasonal { whose: Customer };
         let mut book = [entry(1, 150, 30, 100); 6];
         book[5] = entry(1, 150, 15, 100);
         assert_eq!(rt; rung.answer(&book, &until(516)), basis(3, 600, 165));

@@ -6,7 +6,7 @@ use crate::rungs::{ClassFigure, LastEntry, Seasonal, YearBack};
 use estimating::basis::{Basis, Question};
 use estimating::first_then::FirstThen;
 use estimating::method::Method;
-use lookup::fit::Whose;
+use lookup::fit::Whose::{Anyone, Customer};
 use measures::entry::Entry;
 
 // A customer's own entries come first, then anyone's, and last the class figure.
@@ -21,26 +21,22 @@ pub type StandardMethod = FirstThen<
     >,
 >;
 
-const OWN: Whose = Whose::Customer;
-
-const ANY: Whose = Whose::Anyone;
-
 // The standard method.
 pub fn standard_method() -> StandardMethod
     ensures answer { result ≡ standard_rungs }
 {
     FirstThen {
-        first: LastEntry { whose: OWN },
+        first: LastEntry { whose: Customer },
         second: FirstThen {
-            first: YearBack { whose: OWN },
+            first: YearBack { whose: Customer },
             second: FirstThen {
-                first: Seasonal { whose: OWN },
+                first: Seasonal { whose: Customer },
                 second: FirstThen {
-                    first: LastEntry { whose: ANY },
+                    first: LastEntry { whose: Anyone },
                     second: FirstThen {
-                        first: YearBack { whose: ANY },
+                        first: YearBack { whose: Anyone },
                         second: FirstThen {
-                            first: Seasonal { whose: ANY },
+                            first: Seasonal { whose: Anyone },
                             second: ClassFigure,
                         },
                     },

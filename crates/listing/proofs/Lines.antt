@@ -1,5 +1,5 @@
 -- The lines of a listing: what is left of one, and how long one is.
-use Rattle.std.proofs.Common.{◌≡◌, ℕ, ◌+◌, ◌*◌, ◌^◌, ◌<◌, ◌≤◌, Bool, true, false, List, [], ◌∷◌, ◌++◌, length, get_or, drop, decimal, sym, ap, ◌∙◌, subst, mul-le-mul_left, mul-one, mul-add, arith}
+use Rattle.std.proofs.Common.{◌≡◌, ℕ, ◌+◌, ◌*◌, ◌^◌, ◌<◌, ◌≤◌, Bool, true, false, List, [], ◌∷◌, ◌++◌, length, get_or, drop, decimal, sym, ap, ◌∙◌, subst, mul-one, mul-add, arith}
 use Rattle.std.proofs.lemmas.List.{at_drop_more, length-append}
 use Rattle.measures.specs.Entry.{kind_number}
 use Rattle.measures.specs.declared.entry.Entry.{Entry}
@@ -22,18 +22,18 @@ module _ (ns : List ℕ) (i : ℕ) (h : i < length ns) where
   pub fields_left : length (fields (drop i ns)) ≡ 1 + (length (decimal (get_or ns i 0)) + length (fields (drop (i + 1) ns)))
   fields_left = ap length fields_more ∙ length_fields (get_or ns i 0) (drop (i + 1) ns)
 
-  pub put_field : (p q r e : Page) → p.end < length p.buffer.now → Wrote (space ∷ []) p q → Wrote (decimal (get_or ns i 0)) q r → Wrote (fields (drop (i + 1) ns)) r e → Wrote (fields (drop i ns)) p e
-  put_field p q r e room a b rest =
+  pub put_field : (p q r e : Page) → Wrote (space ∷ []) p q → Wrote (decimal (get_or ns i 0)) q r → Wrote (fields (drop (i + 1) ns)) r e → Wrote (fields (drop i ns)) p e
+  put_field p q r e a b rest =
       let n = get_or ns i 0 in
-      let one : Wrote (space ∷ decimal n) p r = wrote_then (space ∷ []) (decimal n) q r a b (omega arith) in
-      subst (λ t. Wrote t p e) (sym fields_more) (wrote_then (space ∷ decimal n) (fields (drop (i + 1) ns)) r e one rest (omega arith))
+      let one : Wrote (space ∷ decimal n) p r = wrote_then (space ∷ []) (decimal n) q r a b in
+      subst (λ t. Wrote t p e) (sym fields_more) (wrote_then (space ∷ decimal n) (fields (drop (i + 1) ns)) r e one rest)
 
 -- one line more
 module _ {X : Type 0} (line : X → List ℕ) (xs : List X) (i : ℕ) (x : X) (is : x ≡ get_or xs i x) (h : i < length xs) where
-  pub put_line : (p q e : Page) → p.end ≤ length p.buffer.now → Wrote (line x) p q → Wrote (lines line (drop (i + 1) xs)) q e → Wrote (lines line (drop i xs)) p e
-  put_line p q e room a rest =
+  pub put_line : (p q e : Page) → Wrote (line x) p q → Wrote (lines line (drop (i + 1) xs)) q e → Wrote (lines line (drop i xs)) p e
+  put_line p q e a rest =
       let more : line x ++ lines line (drop (i + 1) xs) ≡ lines line (drop i xs) = ap (λ y. line y ++ lines line (drop (i + 1) xs)) is ∙ sym (at_drop_more (lines line) xs i x h) in
-      subst (λ t. Wrote t p e) more (wrote_then (line x) (lines line (drop (i + 1) xs)) q e a rest room)
+      subst (λ t. Wrote t p e) more (wrote_then (line x) (lines line (drop (i + 1) xs)) q e a rest)
 
 -- the longest lines, from the longest fields
 
@@ -88,7 +88,3 @@ entry_few e ns is h1 h2 h3 h4 h5 =
 
 pub times_more : (m i : ℕ) → m * (i + 1) ≡ m * i + m
 times_more m i = mul-add m i 1 ∙ ap (λ k. m * i + k) (mul-one m)
-
--- what a line takes is there as long as a line is left
-pub room_for_one : (m i n : ℕ) → i < n → m * i + m ≤ m * n
-room_for_one m i n h = omega (arith, times_more m i, mul-le-mul_left {m = i + 1} {n = n} m (omega arith))

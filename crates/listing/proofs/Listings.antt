@@ -1,5 +1,5 @@
 -- A whole listing, from the texts that it is made of.
-use Rattle.std.proofs.Common.{◌≡◌, ℕ, ◌+◌, ◌≤◌, List, [], ◌∷◌, ◌++◌, length, take, drop, ◌∙◌, arith}
+use Rattle.std.proofs.Common.{◌≡◌, ℕ, ◌+◌, List, [], ◌∷◌, ◌++◌, length, take, drop, ◌∙◌, arith}
 use Rattle.sheets.specs.declared.notice.Notice.{Notice}
 use Rattle.listing.specs.Refused.{section_letter, notice_line}
 use Rattle.listing.specs.Listing.{fields, in_front}
@@ -8,8 +8,8 @@ use Rattle.listing.specs.Put.{Wrote}
 use Rattle.listing.proofs.Puts.{wrote_then}
 
 -- four texts after one another
-pub wrote_four : {a : Page} (s t u v : List ℕ) (b c d e : Page) → Wrote s a b → Wrote t b c → Wrote u c d → Wrote v d e → a.end ≤ length a.buffer.now → b.end ≤ length b.buffer.now → c.end ≤ length c.buffer.now → Wrote (s ++ (t ++ (u ++ v))) a e
-wrote_four {a} s t u v b c d e p q r o g h i = wrote_then s (t ++ (u ++ v)) b e p (wrote_then t (u ++ v) c e q (wrote_then u v d e r o i) h) g
+pub wrote_four : {a : Page} (s t u v : List ℕ) (b c d e : Page) → Wrote s a b → Wrote t b c → Wrote u c d → Wrote v d e → Wrote (s ++ (t ++ (u ++ v))) a e
+wrote_four {a} s t u v b c d e p q r o = wrote_then s (t ++ (u ++ v)) b e p (wrote_then t (u ++ v) c e q (wrote_then u v d e r o))
 
 -- a text from the front on, and the bytes x that are the page's
 pub wrote_in_front : {p : Page} {x : List ℕ} (t : List ℕ) (q : Page) → Wrote t p q → p.end ≡ 0 → x ≡ q.buffer.now → x ≡ in_front t p.buffer.now

@@ -38,11 +38,11 @@ put_then at s t b c d r q h p o =
           ∙ append_assoc (take at b) s (t ++ after) ∙ ap (λ x. take at b ++ x) (sym (append_assoc s t after));
     }
 
-pub wrote_then : {p : Page} (s t : List ℕ) (q r : Page) → Wrote s p q → Wrote t q r → p.end ≤ length p.buffer.now → Wrote (s ++ t) p r
-wrote_then {p} s t q r w v h = record {
+pub wrote_then : {p : Page} (s t : List ℕ) (q r : Page) → Wrote s p q → Wrote t q r → Wrote (s ++ t) p r
+wrote_then {p} s t q r w v = record {
   same = v.same ∙ w.same;
   long = v.long ∙ w.long;
-  put = put_then p.end s t p.buffer.now q.buffer.now r.buffer.now q.end r.end h w.put v.put;
+  put = put_then p.end s t p.buffer.now q.buffer.now r.buffer.now q.end r.end p.within w.put v.put;
 }
 
 pub wrote_as : {p : Page} (s t : List ℕ) (q : Page) → s ≡ t → Wrote s p q → Wrote t p q

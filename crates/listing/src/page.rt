@@ -1,7 +1,5 @@
 // Text written to the front of a lent buffer, where it stays.
-ghost use Rattle.std.specs.Prelude.{◌≡◌, ◌+◌, ◌≤◌, [], ◌∷◌, length, decimal};
-ghost use Rattle.listing.specs.Listing.{fields};
-ghost use Rattle.listing.specs.Put.{Wrote};
+ghost use Rattle.std.specs.Prelude.{◌≡◌, ◌≤◌, length, decimal};
 
 use itoa::write_digits;
 
@@ -10,9 +8,14 @@ pub(crate) struct Page<'a> {
     pub(crate) buffer: &'a mut [u8],
     // Where what is written ends.
     pub(crate) end: usize,
+    ghost within: { end ≤ length buffer.now },
 }
 
 impl Page<'_> {
+    ghost use Rattle.std.specs.Prelude.{◌+◌, [], ◌∷◌};
+    ghost use Rattle.listing.specs.Listing.{fields};
+    ghost use Rattle.listing.specs.Put.{Wrote};
+
     #[inline]
     pub(crate) fn byte(&mut self, byte: u8)
         requires { self.old.end + 1 ≤ length self.old.buffer.now }
@@ -69,11 +72,5 @@ impl Page<'_> {
 fn count_digits(n: u32) -> usize
     ensures { result ≡ length (decimal n) }
 {
-    let mut count = 1;
-    let mut rest = n;
-    while rest >= 10 {
-        count += 1;
-        rest /= 10;
-    }
-    count
+    n.checked_ilog10().unwrap_or(0) as usize + 1
 }

@@ -1,10 +1,10 @@
 -- The six latest records that pass a test.
-use Rattle.std.proofs.Common.{◌≡◌, ℕ, suc, ◌+◌, ◌-◌, ◌<◌, ◌≤◌, Bool, true, List, [], ◌∷◌, ◌++◌, length, take, drop, filter, sym, refl, ap, ◌∙◌, ⊎_elim, arith}
+use Rattle.std.proofs.Common.{◌≡◌, ℕ, suc, ◌+◌, ◌-◌, ◌<◌, ◌≤◌, Bool, List, [], ◌∷◌, ◌++◌, length, take, drop, filter, sym, refl, ap, ◌∙◌, ⊎_elim, arith}
 use Rattle.std.proofs.lemmas.List.{drop_at, take-append-drop, length-append}
 use Rattle.std.proofs.lemmas.List.Elements.{filter-append}
 use Rattle.std.proofs.lemmas.Bool.{cond-true, cond-false, cases_eq, cases_lt, cases_Bool}
 use Rattle.lookup.specs.declared.six.Six.{Six}
-use Rattle.lookup.specs.Six.{total, last_six, sum_up, six_latest, SixLatest}
+use Rattle.lookup.specs.Six.{last_six, sum_up, six_latest, SixLatest}
 
 module _ {R : Type 0} (test : R → Bool) where
   -- where six pass from a place on, those are the last six
@@ -40,16 +40,6 @@ module _ {R : Type 0} (test : R → Bool) where
       (cases_lt (length (filter test book)) n)
 
   module _ (used metered : R → ℕ) where
-    pub sum_yes : (x : R) (back : List R) (s : Six) (u m : ℕ) → test x ≡ true → u ≡ used x → m ≡ metered x
-        → s ≡ sum_up used metered (filter test back)
-        → record { count = s.count + 1; usage_days = s.usage_days + u; kwh = s.kwh + m } ≡ sum_up used metered (filter test (x ∷ back))
-    sum_yes x back s u m t us ms now =
-        let kept : filter test (x ∷ back) ≡ x ∷ filter test back = cond-true _ _ _ t in
-        let n : s.count + 1 ≡ suc (length (filter test back)) = omega (arith, ap (λ (z : Six). z.count) now) in
-        let d : s.usage_days + u ≡ used x + total used (filter test back) = omega (arith, ap (λ (z : Six). z.usage_days) now) in
-        let k : s.kwh + m ≡ metered x + total metered (filter test back) = omega (arith, ap (λ (z : Six). z.kwh) now) in
-        rw (kept, n, d, k) refl
-
     -- what was summed up from a place on, six or all, is what the six latest come to
     six_from : (book : List R) (i : ℕ) (s : Six) → s ≡ sum_up used metered (filter test (drop i book)) → s.count ≤ 6 → (s.count < 6 → i ≡ 0) → s ≡ six_latest test used metered book
     six_from book i s now few all =

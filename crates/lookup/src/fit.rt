@@ -32,6 +32,17 @@ impl Whose {
             Whose::Anyone => anyone,
         }
     }
+
+    // The test of the records that are looked at for a customer.
+    pub fn of(self, customer: u32) -> OfCustomer
+        ensures whose { result.whose ≡ self }
+        ensures customer { result.customer ≡ customer }
+    {
+        OfCustomer {
+            whose: self,
+            customer,
+        }
+    }
 }
 
 // Passes the records of a customer, or of anyone.
@@ -45,10 +56,7 @@ impl<R: TellsCustomer> Fit<R> for OfCustomer {
     ghost fits = { λ f x. asked f.whose (R.TellsCustomer.billed x) f.customer };
 
     fn fit(&self, candidate: &R) -> bool {
-        match self.whose {
-            Whose::Customer => candidate.customer() == self.customer,
-            Whose::Anyone => true,
-        }
+        self.whose == Whose::Anyone || candidate.customer() == self.customer
     }
 }
 

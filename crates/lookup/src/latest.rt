@@ -13,12 +13,10 @@ pub fn latest_place<R, F: Fit<R>>(book: &[R], fit: &F) -> Option<usize>
     ensures answer { result ≡ latest_place (F.fits fit.now) book.now }
     ensures found { PlaceOrNone (F.fits fit.now) book.now result }
 {
-    let mut front = book;
-    while let Some((last, before)) = front.split_last() {
-        if fit.fit(last) {
-            return Some(before.len());
+    for (place, record) in book.iter().enumerate().rev() {
+        if fit.fit(record) {
+            return Some(place);
         }
-        front = before;
     }
     None
 }
@@ -127,22 +125,15 @@ mod tests {
         assert_eq!(rt; kw_of(newest(&book[0..0])), None);
     }
 
-    const fn of(whose: Whose, customer: u32) -> OfCustomer {
-        OfCustomer { whose, customer }
-    }
-
     #[test]
     fn peaks_a_year_back(rt: HostRuntime) {
         let book = peaks();
+        assert_eq!(rt; year_back_place(&book, Whose::Customer.of(1), 424), Some(1));
         assert_eq!(rt;
-            year_back_place(&book, of(Whose::Customer, 1), 424),
-            Some(1)
-        );
-        assert_eq!(rt;
-            kw_of(year_back(&book, of(Whose::Customer, 1), 424)),
+            kw_of(year_back(&book, Whose::Customer.of(1), 424)),
             Some(6)
         );
-        assert_eq!(rt; kw_of(year_back(&book, of(Whose::Anyone, 1), 424)), Some(7));
-        assert_eq!(rt; kw_of(year_back(&book, of(Whose::Customer, 3), 424)), None);
+        assert_eq!(rt; kw_of(year_back(&book, Whose::Anyone.of(1), 424)), Some(7));
+        assert_eq!(rt; kw_of(year_back(&book, Whose::Customer.of(3), 424)), None);
     }
 }

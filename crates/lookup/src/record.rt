@@ -38,7 +38,7 @@ impl TellsEndDay for Entry {
     ghost ends = { λ e. e.end_day };
 
     fn end_day(&self) -> u32 {
-        self.end_day as u32
+        u32::from(self.end_day)
     }
 }
 
@@ -56,7 +56,7 @@ impl TellsUse for Entry {
     ghost metered = { λ e. e.kwh };
 
     fn usage_days(&self) -> u16 {
-        self.usage_days as u16
+        u16::from(self.usage_days)
     }
 
     fn kwh(&self) -> u32 {

@@ -28,17 +28,15 @@ pub fn six_latest<R: TellsUse, F: Fit<R>>(book: &[R], fit: &F) -> Six
         usage_days: 0,
         kwh: 0,
     };
-    let mut front = book;
-    while let Some((last, before)) = front.split_last() {
+    for last in book.iter().rev() {
         if fit.fit(last) {
             six.count += 1;
-            six.usage_days += last.usage_days() as u32;
-            six.kwh += last.kwh() as u64;
+            six.usage_days += u32::from(last.usage_days());
+            six.kwh += u64::from(last.kwh());
             if six.count == SIX {
                 return six;
             }
         }
-        front = before;
     }
     six
 }
@@ -121,10 +119,6 @@ mod tests {
         }
     }
 
-    const fn of(whose: Whose, customer: u32) -> OfCustomer {
-        OfCustomer { whose, customer }
-    }
-
     // 0 is 1 January 2000 and 200 a day of July; 366 is 1 January 2001.
     #[test]
     fn six_of_a_winter(rt: HostRuntime) {
@@ -134,23 +128,23 @@ mod tests {
         book[7] = used(1, 366, 22, 1);
         let own = Whose::Customer;
         assert_eq!(rt;
-            seasonal_sum(&book, of(own, 1), Season::Winter),
+            seasonal_sum(&book, own.of(1), Season::Winter),
             found(6, 127, 499_999_996)
         );
         assert_eq!(rt;
-            seasonal_sum(&book[1..8], of(own, 1), Season::Winter),
+            seasonal_sum(&book[1..8], own.of(1), Season::Winter),
             found(5, 106, 399_999_997)
         );
         assert_eq!(rt;
-            seasonal_sum(&book, of(own, 2), Season::Winter),
+            seasonal_sum(&book, own.of(2), Season::Winter),
             found(1, 21, 50)
         );
         assert_eq!(rt;
-            seasonal_sum(&book, of(own, 3), Season::Winter),
+            seasonal_sum(&book, own.of(3), Season::Winter),
             found(0, 0, 0)
         );
         assert_eq!(rt;
-            seasonal_sum(&book, of(Whose::Anyone, 3), Season::Winter),
+            seasonal_sum(&book, Whose::Anyone.of(3), Season::Winter),
             found(6, 127, 400_000_047)
         );
     }

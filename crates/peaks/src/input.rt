@@ -2,8 +2,9 @@
 use demand::entry::{DemandEntry, Mark};
 use demand::question::DemandQuestion;
 use desk::fault::Fault;
+use desk::lines::head_and_lines;
 use desk::numbers::numbers_of;
-use desk::pieces::{fields_in, lines_in};
+use desk::pieces::fields_in;
 use fields::number::number_of;
 use fields::rate::rate_of;
 use std::alloc::Global;
@@ -31,15 +32,11 @@ pub enum Wrong {
 
 // The job that the bytes ask for. The LF at their end may be left out.
 pub fn read_job(heap: Global, bytes: &[u8]) -> Result<Job, Fault<Wrong>> {
-    if bytes.len() > MOST_BYTES {
-        return Err(Fault::Line(1, Wrong::Long));
-    }
-    let mut lines = lines_in(bytes);
-    let question = question_of(lines.next().unwrap_or(b"")).ok_or(Fault::Line(1, Wrong::Question))?;
-    let mut book = Vec::new(heap);
-    for (place, line) in (2usize..).zip(lines) {
-        book.push(entry_of(line).ok_or(Fault::Line(place, Wrong::Entry))?)?;
-    }
+    let (head, lines) = head_and_lines(bytes, MOST_BYTES, Wrong::Long)?;
+    let question = question_of(head).ok_or(Fault::Line(1, Wrong::Question))?;
+    let book = lines
+        .map(|(place, line)| entry_of(line).ok_or(Fault::Line(place, Wrong::Entry)))
+        .try_collect(heap)?;
     Ok(Job { question, book })
 }
 
@@ -53,10 +50,7 @@ fn question_of(line: &[u8]) -> Option<DemandQuestion> {
         rate: rate_of(fields.next()?)?,
         initial: initial_of(number_of(fields.next()?)?)?,
     };
-    match fields.next() {
-        None => Some(question),
-        Some(_) => None,
-    }
+    fields.next().is_none().then_some(question)
 }
 
 fn entry_of(line: &[u8]) -> Option<DemandEntry> {

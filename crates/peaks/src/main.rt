@@ -42,13 +42,11 @@ mod tests {
         line: usize,
         wrong: Wrong,
     ) -> Result<(), Fail> {
-        match listing(rt.alloc(), bytes) {
-            Ok(_) => Err(Fail::new("the input is not refused")),
-            Err(fault) => {
-                assert_eq!(rt; fault, Fault::Line(line, wrong));
-                Ok(())
-            },
-        }
+        assert_eq!(rt;
+            listing(rt.alloc(), bytes).err(),
+            Some(Fault::Line(line, wrong))
+        );
+        Ok(())
     }
 
     #[test]

@@ -3,9 +3,9 @@
 --   any_estimated es   one of the entries is estimated
 --   corrections es     how many of the entries take part when an advance is shared out
 --   waiting_days n b   the days of a put-off entry at the end of the first n entries, 0 where there is none
-use Rattle.std.specs.Prelude.{ℕ, ◌+◌, ◌-◌, Bool, true, false, cond, ◌&&◌, ◌||◌, List, [], ◌∷◌, nat_le, nat_lt, slice_index_or}
+use Rattle.std.specs.Prelude.{ℕ, ◌+◌, ◌-◌, Bool, true, false, cond, ◌&&◌, List, [], ◌∷◌, nat_le, nat_lt, slice_index_or}
 use Rattle.sharing.specs.Entries.{is_put_off, entry_part}
-use Rattle.std.specs.List.{list_all}
+use Rattle.std.specs.List.{list_all, list_any}
 use Rattle.measures.specs.declared.entry.Entry.{Entry}
 use Rattle.measures.specs.declared.entry.Kind.{Kind}
 use Rattle.measures.specs.declared.entry.Kind.TheVariants.{Actual, TrueUp, Estimated, PutOff, Corrected}
@@ -25,8 +25,7 @@ abbrev pub sound : ℕ → List Entry → Bool
 sound t es = list_all (sound_entry t) es
 
 abbrev pub any_estimated : List Entry → Bool
-any_estimated [] = false
-any_estimated (e ∷ es) = is_estimated e.kind || any_estimated es
+any_estimated es = list_any (λ e. is_estimated e.kind) es
 
 abbrev pub corrections : List Entry → ℕ
 corrections [] = 0

@@ -1,5 +1,5 @@
 pub mod Books
-pub mod Tallies
 pub mod Files
 pub mod History
 pub mod Plays
+pub mod Closings

@@ -1,9 +1,7 @@
 // The entries of a book: what the calls read from them and write.
-ghost use Rattle.std.specs.Prelude.{◌≡◌, ◌^◌, ◌<◌, ◌≤◌, not, length, if◌then◌else◌};
-ghost use Rattle.measures.specs.Entry.{total_kwh};
-ghost use Rattle.sharing.specs.Entries.{is_put_off};
-ghost use Rattle.premise.specs.Tallies.{tally_of};
-ghost use Rattle.premise.specs.Books.{is_estimated, sound_entry, sound, waiting_days};
+ghost use Rattle.std.specs.Prelude.{◌≡◌, ◌^◌, ◌<◌, ◌≤◌, length};
+ghost use Rattle.measures.specs.Entry.{total_kwh, total_usage_days};
+ghost use Rattle.premise.specs.Books.{is_estimated, any_estimated, corrections, sound_entry, sound};
 
 use measures::entry::{Entry, Kind};
 use sharing::entry::is_put_off;
@@ -31,60 +29,44 @@ pub(crate) fn is_sound(turn: u32, entries: &[Entry]) -> bool
     entries.iter().all(|e| is_sound_entry(turn, e))
 }
 
-// The kWh of a run of entries.
-pub(crate) fn sum_kwh(run: &[Entry]) -> u64
-    requires { length run.now ≤ 255 }
-    ensures value { result ≡ total_kwh run.now }
-    ensures few { result < 2 ^ 41 }
-{
-    let mut sum: u64 = 0;
-    for e in run {
-        sum += e.kwh as u64;
-    }
-    sum
-}
-
-// What a read asks of the open run, besides its kWh.
+// Entries that stand one after the other in a book, no more of them than a book has places.
 #[derive(Clone, Copy)]
-pub(crate) struct Tally {
-    pub usage_days: u32,
-    pub estimated: bool,
-    pub corrections: u8,
+pub(crate) struct Run<'a> {
+    pub(crate) entries: &'a [Entry],
+    ghost few: { length entries.now ≤ 255 },
 }
 
-// 1 where an entry of this kind takes part when an advance is shared out, else 0.
-fn correction(kind: Kind) -> u8
-    ensures { result ≡ (if not (is_put_off kind) then 1 else 0) }
-{
-    u8::from(!is_put_off(kind))
-}
-
-pub(crate) fn tallied(run: &[Entry]) -> Tally
-    requires { length run.now ≤ 255 }
-    ensures { result ≡ tally_of run.now }
-{
-    let mut usage_days: u32 = 0;
-    let mut estimated = false;
-    let mut corrections: u8 = 0;
-    for e in run {
-        usage_days += e.usage_days as u32;
-        estimated = estimated || is_estimated(e.kind);
-        corrections += correction(e.kind);
+impl Run<'_> {
+    // Their kWh.
+    pub(crate) fn sum_kwh(&self) -> u64
+        ensures value { result ≡ total_kwh self.now.entries.now }
+        ensures few { result < 2 ^ 41 }
+    {
+        let mut sum: u64 = 0;
+        for e in self.entries {
+            sum += u64::from(e.kwh);
+        }
+        sum
     }
-    Tally {
-        usage_days,
-        estimated,
-        corrections,
-    }
-}
 
-// The days of a put-off entry at the end of the first `count` entries, 0 where there is none.
-pub(crate) fn waiting_days(count: usize, book: &[Entry]) -> u8
-    requires { count ≤ length book.now }
-    ensures { result ≡ waiting_days count book.now }
-{
-    match book[..count].last() {
-        Some(last) if is_put_off(last.kind) => last.days,
-        _ => 0,
+    // Their usage days.
+    pub(crate) fn usage_days(&self) -> u32
+        ensures { result ≡ total_usage_days self.now.entries.now }
+    {
+        self.entries.iter().map(|e| u32::from(e.usage_days)).sum()
+    }
+
+    // Whether one of them is an estimate.
+    pub(crate) fn has_estimate(&self) -> bool
+        ensures { result ≡ any_estimated self.now.entries.now }
+    {
+        self.entries.iter().any(|e| is_estimated(e.kind))
+    }
+
+    // How many of them take part when an advance is shared out.
+    pub(crate) fn count_corrections(&self) -> u8
+        ensures { result ≡ corrections self.now.entries.now }
+    {
+        self.entries.iter().filter(|e| !is_put_off(e.kind)).count() as u8
     }
 }

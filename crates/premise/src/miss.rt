@@ -5,7 +5,6 @@ ghost use Rattle.premise.specs.Files.{misses};
 use crate::condition::Condition;
 use crate::event::Event;
 use crate::file::{PUT_OFF_BELOW, PremiseFile};
-use crate::period::Period;
 use estimating::method::EnergyMethod;
 use judging::Judgement;
 use measures::entry::{Entry, Kind};
@@ -15,15 +14,11 @@ impl<M: EnergyMethod, J: Judgement> PremiseFile<M, J> {
     pub(crate) fn close_missed(&mut self, book: &mut [Entry], day: u32) -> Result<(u8, u8, u32), u8>
         ensures { (result, self.new, book.new) ≡ misses M.Method.table self.old book.old day }
     {
-        let days = self.may_miss(book, day)?;
-        let end_day = day as u16;
+        let period = self.missed_period(book, day)?;
+        let end_day = period.day;
+        let days = period.days();
         let place = self.in_use();
         let initial = self.is_fresh();
-        let period = Period {
-            file: self,
-            book,
-            day: end_day,
-        };
         let entry = match (&self.condition, days, initial) {
             (Condition::Fresh, short, true) if short < PUT_OFF_BELOW => period.putting_off(),
             _ => {
@@ -32,7 +27,7 @@ impl<M: EnergyMethod, J: Judgement> PremiseFile<M, J> {
             }
         };
         book[place] = entry;
-        let _ = self.enter(Event::Miss { day: end_day, days });
+        self.enter(Event::Miss { day: end_day, days }).unwrap();
         Ok((u8::from(entry.kind), entry.rung, entry.kwh))
     }
 }

@@ -4,7 +4,6 @@ ghost use Rattle.measures.specs.Dial.{dial_of};
 ghost use Rattle.premise.specs.History.{Opened};
 ghost use Rattle.premise.specs.Files.{opens, open_on, moves, used_part, open_part, carry_over, settled_sum, seen};
 
-use crate::book;
 use crate::condition::Condition;
 use crate::event::Event;
 use crate::file::PremiseFile;
@@ -15,7 +14,7 @@ use measures::rate::Rate;
 use measures::refusal;
 
 // The most places of a book.
-const MOST_PLACES: usize = 240;
+pub const MOST_PLACES: usize = 240;
 
 // What a premise is opened with: its rate, the digits of its dial, the day, the register that the dial shows, and the customer.
 #[derive(Clone, Copy, PartialEq, Eq, Debug)]
@@ -100,31 +99,27 @@ impl<M, J> PremiseFile<M, J> {
     pub fn entries<'a>(&self, book: &'a [Entry]) -> Result<&'a [Entry], u8>
         ensures answer { seen result ≡ used_part self.now book.now }
     {
-        self.check_book(book)?;
-        Ok(&book[0..self.in_use()])
+        Ok(self.with_own(book)?.entries())
     }
 
     // The part of the book that holds the open entries.
     pub fn open_run<'a>(&self, book: &'a [Entry]) -> Result<&'a [Entry], u8>
         ensures answer { seen result ≡ open_part self.now book.now }
     {
-        self.check_book(book)?;
-        Ok(self.run(book))
+        Ok(self.with_own(book)?.open_run().entries)
     }
 
     // The kWh of the entries up to the last accepted read.
     pub(crate) fn sum_settled(&self, book: &[Entry]) -> Result<u64, u8>
         ensures { result ≡ settled_sum self.now book.now }
     {
-        self.check_book(book)?;
-        Ok(book::sum_kwh(&book[0..self.settled as usize]))
+        Ok(self.with_own(book)?.settled_run().sum_kwh())
     }
 
     // The kWh of the open entries: the carry-over.
     pub fn open_sum(&self, book: &[Entry]) -> Result<u64, u8>
         ensures answer { result ≡ carry_over self.now book.now }
     {
-        self.check_book(book)?;
-        Ok(book::sum_kwh(self.run(book)))
+        Ok(self.with_own(book)?.open_run().sum_kwh())
     }
 }

@@ -3,9 +3,9 @@ ghost use Rattle.std.specs.Prelude.{◌≡◌, ◌<◌, true, length};
 ghost use Rattle.premise.specs.declared.period.Billing.TheVariants.{Shared};
 ghost use Rattle.premise.specs.Files.{in_use, fits, next_period, billing, billed, reads};
 
-use crate::book;
 use crate::event::Event;
 use crate::file::PremiseFile;
+use crate::own::OwnBook;
 use crate::period::{Billing, Period};
 use judging::Judgement;
 use measures::entry::{Entry, Kind};
@@ -20,21 +20,18 @@ impl<M, J: Judgement> PremiseFile<M, J> {
         requires dial { advance < 100000000 }
         ensures { (result, book.new) ≡ billed Shared self.now book.old day advance }
     {
-        let first = self.settled as usize;
+        let first = usize::from(self.settled);
         let place = self.in_use();
-        let corrections = book::tallied(self.run(book)).corrections;
         let period = Period {
-            file: self,
-            book,
+            own: OwnBook { file: self, book },
             day,
         };
+        let corrections = period.own.open_run().count_corrections();
         let entry = period.closing(Kind::Actual, 0, 0);
         book[place] = entry;
-        let Ok(()) = share_out(advance, &mut book[first..place + 1]) else {
-            unreachable()
-        };
+        share_out(advance, &mut book[first..place + 1]).unwrap();
         book[place].kind = Kind::Actual;
-        (1, book[place].kwh, corrections)
+        (u8::from(Kind::Actual), book[place].kwh, corrections)
     }
 
     // Closes a period by a read, and answers the kind and kWh of its entry and how many entries it corrected.
@@ -46,13 +43,8 @@ impl<M, J: Judgement> PremiseFile<M, J> {
     ) -> Result<(u8, u32, u8), u8>
         ensures { (result, self.new, book.new) ≡ reads J.Judgement.higher self.old book.old day register }
     {
-        let (_, advance) = self.may_read(book, day, register)?;
-        let end_day = day as u16;
-        let period = Period {
-            file: self,
-            book,
-            day: end_day,
-        };
+        let (period, advance) = self.read_period(book, day, register)?;
+        let end_day = period.day;
         let answer = match period.billing(advance) {
             Billing::Alone(kind, kwh) => {
                 let entry = period.closing(kind, 0, kwh);
@@ -61,10 +53,11 @@ impl<M, J: Judgement> PremiseFile<M, J> {
             }
             Billing::Shared => self.share_advance(book, end_day, advance),
         };
-        let _ = self.enter(Event::Read {
+        self.enter(Event::Read {
             day: end_day,
             register,
-        });
+        })
+        .unwrap();
         Ok(answer)
     }
 }

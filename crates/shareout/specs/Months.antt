@@ -2,9 +2,9 @@
 --   kwh_of ms            the kWh of all months
 --   settled n p r ms     the advance of a dial of n digits from register p to r, or by which number it is refused
 --   settled_months r ms  the months once it is shared out, as they were where it is refused
-use Rattle.std.specs.Prelude.{ℕ, Bool, true, List, Ok, Err, Result}
+use Rattle.std.specs.Prelude.{ℕ, Bool, true, List, map, sum, Ok, Err, Result}
 use Rattle.measures.specs.Dial.{advance_of}
-use Rattle.sharing.specs.Sharing.{sum_of, shared, verdict}
+use Rattle.sharing.specs.Sharing.{shared, verdict}
 use Rattle.shareout.specs.declared.months.Month.{Month}
 
 -- every month takes part, by its usage days
@@ -21,7 +21,7 @@ abbrev pub month_kwh : Month → ℕ
 month_kwh m = m.kwh
 
 abbrev pub kwh_of : List Month → ℕ
-kwh_of ms = sum_of month_part month_kwh ms
+kwh_of ms = sum (map month_kwh ms)
 
 abbrev pub told : ℕ → Result (Unit {0}) ℕ → Result ℕ ℕ
 told a (Ok _) = Ok a

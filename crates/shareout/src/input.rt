@@ -5,8 +5,8 @@ ghost use Rattle.shareout.specs.Months.{kwh_of};
 use crate::months;
 use crate::months::Month;
 use desk::fault::Fault;
+use desk::lines::head_and_lines;
 use desk::numbers::numbers_of;
-use desk::pieces::lines_in;
 use fields::number::number_of;
 use measures::refusal;
 use sharing::share::{MOST_RECORDS, MOST_WEIGHT};
@@ -49,19 +49,14 @@ pub enum Wrong {
 
 // The job that the text asks for. The LF at its end may be left out.
 pub fn read_job(heap: Global, text: &[u8]) -> Result<Job, Fault<Wrong>> {
-    if text.len() > MOST_BYTES {
-        return Err(Fault::Line(1, Wrong::Long));
-    }
-    if let Err(e) = std::str::from_utf8(text) {
-        return Err(Fault::Line(line_at(text, e.valid_up_to()), Wrong::NotText));
-    }
-    let mut lines = lines_in(text);
-    let [digits, from, to] = numbers_of::<3>(lines.next().unwrap_or(b"")).ok_or(Fault::Line(
-        1,
-        Wrong::DialFields,
+    let (head, lines) = head_and_lines(text, MOST_BYTES, Wrong::Long)?;
+    std::str::from_utf8(text).map_err(|e| Fault::Line(
+        line_at(text, e.valid_up_to()),
+        Wrong::NotText,
     ))?;
+    let [digits, from, to] = numbers_of::<3>(head).ok_or(Fault::Line(1, Wrong::DialFields))?;
     let mut months = Vec::new(heap);
-    for (place, line) in (2usize..).zip(lines) {
+    for (place, line) in lines {
         let usage_days = number_of(line).ok_or(Fault::Line(place, Wrong::MonthField))?;
         if usage_days > MOST_WEIGHT {
             return Err(Fault::Line(place, Wrong::UsageDays));

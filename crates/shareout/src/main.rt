@@ -57,13 +57,11 @@ mod tests {
         line: usize,
         wrong: Wrong,
     ) -> Result<(), Fail> {
-        match listing(rt.alloc(), text) {
-            Ok(_) => Err(Fail::new("the input is not refused")),
-            Err(fault) => {
-                assert_eq!(rt; fault, Fault::Line(line, wrong));
-                Ok(())
-            },
-        }
+        assert_eq!(rt;
+            listing(rt.alloc(), text).err(),
+            Some(Fault::Line(line, wrong))
+        );
+        Ok(())
     }
 
     #[test]

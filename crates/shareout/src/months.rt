@@ -42,6 +42,7 @@ impl Shares for Month {
 }
 
 // Shares the advance from one register to another out over the months, and answers it.
+#[tactic(auto, using(crate::proofs::Sums::shares_are_kwh))]
 pub fn settle(digits: u32, from: u32, to: u32, months: &mut [Month]) -> Result<u32, u8>
     ensures answer { result ≡ settled digits from to months.old }
     ensures after { months.new ≡ settled_months result months.old }
@@ -57,9 +58,5 @@ pub(crate) fn sum(months: &[Month]) -> u64
     requires { kwh_of months.now < 2 ^ 64 }
     ensures { result ≡ kwh_of months.now }
 {
-    let mut sum: u64 = 0;
-    for month in months {
-        sum += month.kwh as u64;
-    }
-    sum
+    months.iter().map(|month| u64::from(month.kwh)).sum()
 }

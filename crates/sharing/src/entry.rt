@@ -34,7 +34,7 @@ impl Shares for Entry {
     }
 
     fn weight(&self) -> u32 {
-        self.usage_days as u32
+        u32::from(self.usage_days)
     }
 
     fn take_share(&mut self, share: u32) {

@@ -44,7 +44,7 @@ fn weigh<R: Shares>(records: &[R]) -> Option<u64>
             if weight > MOST_WEIGHT {
                 return None;
             }
-            sum += weight as u64;
+            sum += u64::from(weight);
         }
     }
     Some(sum)
@@ -62,7 +62,7 @@ fn give<R: Shares>(total: u32, all: u64, records: &mut [R])
     for r in records.iter_mut() {
         let due = r.takes_part();
         if due {
-            let weight = r.weight() as u64;
+            let weight = u64::from(r.weight());
             let up_to = running_total(total, all, weighed + weight);
             r.take_share(up_to - handed);
             weighed += weight;
@@ -81,7 +81,7 @@ fn running_total(total: u32, all: u64, weighed: u64) -> u32
     if all == 0 {
         return 0;
     }
-    (total as u64 * weighed / all) as u32
+    (u64::from(total) * weighed / all) as u32
 }
 
 #[cfg(test)]
@@ -180,7 +180,7 @@ mod tests {
         assert_eq!(rt; most[3_359].kwh, 297_620);
         let mut sum: u64 = 0;
         for month in most.iter() {
-            sum = sum.saturating_add(month.kwh as u64);
+            sum = sum.saturating_add(u64::from(month.kwh));
         }
         assert_eq!(rt; sum, 1_000_000_000);
     }

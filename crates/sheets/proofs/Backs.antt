@@ -1,5 +1,6 @@
 -- The text of an opening and calls is read as these.
 use Rattle.std.proofs.Common.{◌≡◌, ℕ, ◌+◌, ◌^◌, ◌<◌, ◌≤◌, Bool, true, false, cond, eqb, List, [], ◌∷◌, map, length, Some, Ok, Err, codes, decimal, sym, refl, ap, ◌∙◌, arith}
+use Rattle.std.specs.Option.{ok_or}
 use Rattle.std.proofs.lemmas.Slice.Eq.{bytes_eq-Decides}
 use Rattle.std.proofs.lemmas.Bool.{cond-false, cond_both, both_ways, le-leb, le-ltb, ne_eqb}
 use Rattle.measures.specs.declared.rate.Rate.{Rate}
@@ -15,7 +16,7 @@ use Rattle.fields.proofs.Texts.{told, free_decimal}
 use Rattle.sheets.specs.declared.fault.SectionFault.TheVariants.{Count, Missing, Line}
 use Rattle.sheets.specs.declared.fault.SheetFault.TheVariants.{Premise, Calls, Rest}
 use Rattle.premise.specs.declared.opening.Opening.{Opening}
-use Rattle.sheets.specs.Lines.{line_fields, then, carried, or_fault, call_at, opening_at, count_of}
+use Rattle.sheets.specs.Lines.{line_fields, then, carried, call_at, opening_at, count_of}
 use Rattle.sheets.specs.Sections.{line_at, within, count_at, premise_name, calls_name, premise_section, next_call, calls_of, calls_section, nothing_left, sheet_of}
 use Rattle.sheets.specs.Texts.{opening_fields, call_fields, spaced, written, sheet_text, CallFits, CallsFit, OpeningFits, Fits}
 
@@ -49,7 +50,7 @@ number_back n h = sym (told (decimal n) (Some n) (refl, h))
 -- the next line of a text
 line_back : (n : ℕ) (l : List (List ℕ)) (ls : List (List (List ℕ))) → EachFree 10 l → line_at n (pieces 10 (written (l ∷ ls))) ≡ Ok (spaced l, pieces 10 (written ls))
 line_back n l ls h =
-    ap (or_fault (Missing n)) (ap first_piece (piece_front 10 (spaced l) (written ls) (free_joined 32 10 l refl h)) ∙ first_piece_of 10 (spaced l) (written ls))
+    ap (λ p. ok_or p (Missing n)) (ap first_piece (piece_front 10 (spaced l) (written ls) (free_joined 32 10 l refl h)) ∙ first_piece_of 10 (spaced l) (written ls))
 
 module _ (n k low high : ℕ) (name : List ℕ) (free-name : Free 32 name) (small : k < 2 ^ 32) (from : low ≤ k) (to : k ≤ high) where
   count_back : count_at n name low high (spaced (decimal k ∷ name ∷ [])) ≡ Ok k
@@ -59,7 +60,7 @@ module _ (n k low high : ℕ) (name : List ℕ) (free-name : Free 32 name) (smal
       let number = number_back k small in
       let a = le-leb low k from in
       let b = le-leb k high to in
-      ap (λ fs. or_fault (Count n) (within low high (count_of name fs))) parts ∙ rw (same, number, a, b) refl
+      ap (λ fs. ok_or (within low high (count_of name fs)) (Count n)) parts ∙ rw (same, number, a, b) refl
 
 -- the opening
 module _ (n : ℕ) (o : Opening) (f : OpeningFits o) where

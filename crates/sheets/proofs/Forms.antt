@@ -1,5 +1,7 @@
 -- What was read is the text of what came of it.
 use Rattle.std.proofs.Common.{◌≡◌, ℕ, zero, suc, ◌+◌, ◌^◌, ◌<◌, ◌≤◌, true, false, cond, ◌&&◌, eqb, ltb, leb, List, [], ◌∷◌, ◌++◌, map, length, get_or, is_ok, Some, None, Ok, Err, codes, decimal, Option, Result, sym, refl, ap, ◌∙◌, subst, arith}
+use Rattle.std.specs.Option.{ok_or}
+use Rattle.std.specs.Result.{result_unwrap_or}
 use Rattle.std.specs.Str.{bytes_eq}
 use Rattle.std.proofs.lemmas.Slice.Eq.{bytes_eq-Decides}
 use Rattle.std.proofs.lemmas.Bool.{cond_both, both_ways, eqb-true, leb-true, ltb-false, and_parts}
@@ -18,7 +20,7 @@ use Rattle.sheets.specs.declared.fault.LineFault.TheVariants.{Form, Field}
 use Rattle.sheets.specs.declared.fault.SectionFault.TheVariants.{Count, Missing, Line}
 use Rattle.sheets.specs.declared.fault.SheetFault.TheVariants.{Long, Premise, Calls, Rest}
 use Rattle.premise.specs.declared.opening.Opening.{Opening}
-use Rattle.sheets.specs.Lines.{line_fields, with, then, carried, or_fault, one_of, two_of, Said, read, miss, move, said_by, call_of, premise_of, number_at, rate_at, call_told, call_at, opening_told, opening_at, count_of, fault_at}
+use Rattle.sheets.specs.Lines.{line_fields, with, then, carried, one_of, two_of, Said, read, miss, move, said_by, call_of, premise_of, number_at, rate_at, call_told, call_at, opening_told, opening_at, count_of, fault_at}
 use Rattle.sheets.specs.Sections.{line_at, within, count_at, premise_name, calls_name, premise_section, next_call, calls_of, calls_section, nothing_left, sheet_of}
 use Rattle.sheets.specs.Texts.{opening_fields, call_fields, sheet_lines, spaced, written, sheet_text, CallFits, CallsFit, OpeningFits, Fits}
 
@@ -29,19 +31,15 @@ module _ {A B : Type 0} where
   with_some None f b e = absurd (none-some b e)
 
 module _ {A E : Type 0} where
-  abbrev ok_or : A → Result A E → A
-  ok_or d (Ok a) = a
-  ok_or d (Err e) = d
-
   pub ok_same : (a b : A) → ◌≡◌ {A = Result A E} (Ok a) (Ok b) → a ≡ b
-  ok_same a b e = ap (ok_or a) e
+  ok_same a b e = ap (λ (r : Result A E). result_unwrap_or r a) e
 
   pub err_ok : (f : E) (a : A) → Err f ≡ Ok a → ⊥
   err_ok f a e = both_ways true (ap is_ok (sym e)) refl
 
-  or_fault_ok : (f : E) (x : Option A) (a : A) → or_fault f x ≡ Ok a → x ≡ Some a
-  or_fault_ok f (Some b) a e = ap Some (ok_same b a e)
-  or_fault_ok f None a e = absurd (err_ok f a e)
+  some_from_ok : (f : E) (x : Option A) (a : A) → ok_or x f ≡ Ok a → x ≡ Some a
+  some_from_ok f (Some b) a e = ap Some (ok_same b a e)
+  some_from_ok f None a e = absurd (err_ok f a e)
 
 module _ {A B E : Type 0} where
   then_ok : (r : Result A E) (f : A → Result B E) (b : B) → then r f ≡ Ok b → (a : A) × (r ≡ Ok a) × (f a ≡ Ok b)
@@ -75,10 +73,10 @@ two_is fs t e =
 -- a field that tells a number is its text
 module _ (n k : ℕ) (f : List ℕ) (m : ℕ) (e : number_at n k f ≡ Ok m) where
   number_is : (f ≡ decimal m) × (m < 2 ^ 32)
-  number_is = tells f (Some m) (sym (or_fault_ok (fault_at n k) (number_of f) m e))
+  number_is = tells f (Some m) (sym (some_from_ok (fault_at n k) (number_of f) m e))
 
 rate_is : (n k : ℕ) (f : List ℕ) (r : Rate) → rate_at n k f ≡ Ok r → f ≡ name_of r
-rate_is n k f r e = names f (Some r) (sym (or_fault_ok (fault_at n k) (rate_of f) r e))
+rate_is n k f r e = names f (Some r) (sym (some_from_ok (fault_at n k) (rate_of f) r e))
 
 -- a call's line
 abbrev said_fields : Said → List (List ℕ)
@@ -144,9 +142,9 @@ told_is n (move customer) c e =
 
 call_is : (n : ℕ) (fs : List (List ℕ)) (c : Call) → call_at n fs ≡ Ok c → OfCall fs c
 call_is n fs c e =
-    let s = then_ok (or_fault (Form n) (call_of fs)) (λ s. carried Field (call_told n s)) c e in
+    let s = then_ok (ok_or (call_of fs) (Form n)) (λ s. carried Field (call_told n s)) c e in
     let P : List (List ℕ) → Type 0 = λ l. OfCall l c in
-    subst P (sym (call_of_is fs s.0 (or_fault_ok (Form n) (call_of fs) s.0 s.1))) (told_is n s.0 c (carried_ok Field (call_told n s.0) c s.2))
+    subst P (sym (call_of_is fs s.0 (some_from_ok (Form n) (call_of fs) s.0 s.1))) (told_is n s.0 c (carried_ok Field (call_told n s.0) c s.2))
 
 -- a premise's line
 abbrev five : List ℕ × List ℕ × List ℕ × List ℕ × List ℕ → List (List ℕ)
@@ -187,16 +185,16 @@ opening_told_is n t o e =
 
 opening_is : (n : ℕ) (fs : List (List ℕ)) (o : Opening) → opening_at n fs ≡ Ok o → OfOpening fs o
 opening_is n fs o e =
-    let t = then_ok (or_fault (Form n) (premise_of fs)) (λ t. carried Field (opening_told n t)) o e in
+    let t = then_ok (ok_or (premise_of fs) (Form n)) (λ t. carried Field (opening_told n t)) o e in
     let P : List (List ℕ) → Type 0 = λ l. OfOpening l o in
-    subst P (sym (premise_is fs t.0 (or_fault_ok (Form n) (premise_of fs) t.0 t.1))) (opening_told_is n t.0 o (carried_ok Field (opening_told n t.0) o t.2))
+    subst P (sym (premise_is fs t.0 (some_from_ok (Form n) (premise_of fs) t.0 t.1))) (opening_told_is n t.0 o (carried_ok Field (opening_told n t.0) o t.2))
 
 -- a line is its fields with spaces between
 line_is : (l : List ℕ) (fs : List (List ℕ)) → line_fields l ≡ fs → l ≡ spaced fs
 line_is l fs e = sym (rejoined 32 l) ∙ ap (joined_by 32) e
 
 next_is : (n : ℕ) (ls : List (List ℕ)) (t : List ℕ × List (List ℕ)) → line_at n ls ≡ Ok t → ls ≡ t.0 ∷ t.1
-next_is n ls t e = first_is ls t (or_fault_ok (Missing n) (first_piece ls) t e)
+next_is n ls t e = first_is ls t (some_from_ok (Missing n) (first_piece ls) t e)
 
 -- a count line
 within_is : (low high : ℕ) (x : Option ℕ) (k : ℕ) → within low high x ≡ Some k → (x ≡ Some k) × (low ≤ k) × (k ≤ high)
@@ -209,7 +207,7 @@ within_is low high None k e = absurd (none-some k e)
 
 count_is : (n low high : ℕ) (name l : List ℕ) (k : ℕ) → count_at n name low high l ≡ Ok k → (l ≡ spaced (decimal k ∷ name ∷ [])) × (low ≤ k) × (k ≤ high)
 count_is n low high name l k e =
-    let w = within_is low high (count_of name (line_fields l)) k (or_fault_ok (Count n) _ k e) in
+    let w = within_is low high (count_of name (line_fields l)) k (some_from_ok (Count n) _ k e) in
     let t = with_some (two_of (line_fields l)) (λ t. cond (bytes_eq t.1 name) (number_of t.0) None) k w.0 in
     let P : Option ℕ → Type 0 = λ o. o ≡ Some k → l ≡ spaced (decimal k ∷ name ∷ []) in (
       cond_both (bytes_eq t.0.1 name) (number_of t.0.0) None P

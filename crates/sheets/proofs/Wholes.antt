@@ -1,7 +1,6 @@
 -- A whole sheet from its sections.
-use Rattle.std.proofs.Common.{◌≡◌, ℕ, ◌+◌, ◌<◌, ◌≤◌, true, false, cond, eqb, List, [], ◌∷◌, length, drop, Ok, Err, Result, MatchResult, sym, refl, ap, ◌∙◌, inl, inr, ⊎_elim, arith, length-drop}
-use Rattle.std.proofs.lemmas.List.{at_drop_all}
-use Rattle.std.proofs.lemmas.Bool.{cond-true, cond-false, cond_both, cases_eq, eq-eqb, ne_eqb, le-ltb}
+use Rattle.std.proofs.Common.{◌≡◌, ℕ, ◌+◌, ◌<◌, ◌≤◌, false, cond, eqb, List, [], ◌∷◌, length, Ok, Err, Result, MatchResult, sym, refl, ap, ◌∙◌, inl, inr, ⊎_elim, arith}
+use Rattle.std.proofs.lemmas.Bool.{cond-false, cond_both, ne_eqb, le-ltb}
 use Rattle.std.proofs.lemmas.Result.{err_from_is_err_and}
 use Rattle.std.specs.Result.{IsErrAnd}
 use Rattle.premise.specs.declared.play.Call.{Call}
@@ -32,11 +31,9 @@ left_some c [] h = absurd (omega (arith, h))
 left_some c (b ∷ bs) h = cond_both (eqb b c) ([] ∷ pieces c bs) (onto_first b (pieces c bs)) (λ ps. nothing_left ps ≡ false) (λ e. behind c bs) (λ e. first_onto b (pieces c bs))
 
 -- nothing is left exactly at the end
-pub at_end_is : (sheet : List ℕ) (at : ℕ) → at ≤ length sheet → eqb at (length sheet) ≡ nothing_left (pieces 10 (drop at sheet))
-at_end_is sheet at h = ⊎_elim
-    (λ e. eq-eqb at (length sheet) e ∙ sym (at_drop_all (λ bs. nothing_left (pieces 10 bs)) sheet at (omega (arith, e))))
-    (λ n. ne_eqb at (length sheet) n ∙ sym (left_some 10 (drop at sheet) (omega (arith, h, n, length-drop at sheet))))
-    (cases_eq at (length sheet))
+pub at_end_is : (bs : List ℕ) → eqb (length bs) 0 ≡ nothing_left (pieces 10 bs)
+at_end_is [] = refl
+at_end_is (b ∷ bs) = ne_eqb (length (b ∷ bs)) 0 (λ e. omega (arith, e)) ∙ sym (left_some 10 (b ∷ bs) (omega arith))
 
 -- what a call answered, from what it was told as above it
 module _ {A E F : Type 0} (V : E → F) where
@@ -62,19 +59,9 @@ module _ (bs : List ℕ) (small : length bs ≤ 8192) where
   sheet_is : from_premise (premise_section 1 (pieces 10 bs)) ≡ sheet_of bs
   sheet_is = sym (cond-false _ _ _ (le-ltb 8192 (length bs) small))
 
-  pub premise_fault : (f : SectionFault) → Err f ≡ premise_section 1 (pieces 10 bs) → Err (Premise f) ≡ sheet_of bs
-  premise_fault f e = ap from_premise e ∙ sheet_is
-
   module _ (o : Opening) (ls : List (List ℕ)) (n : ℕ) (read : (Ok (o, ls) ≡ premise_section 1 (pieces 10 bs)) × (n ≡ 2)) where
     calls_are : finish o (calls_section (n + 1) ls) ≡ sheet_of bs
     calls_are = ap (λ k. finish o (calls_section (k + 1) ls)) read.1 ∙ ap from_premise read.0 ∙ sheet_is
 
     pub calls_fault : (f : SectionFault) → OrMemory (calls_section (n + 1) ls) f → SheetRefused bs (Calls f)
     calls_fault f h = ⊎_elim (λ m. inl (ap Calls m)) (λ e. inr (ap (finish o) e ∙ calls_are)) h
-
-    module _ (cs : List Call) (rest : List (List ℕ)) (called : Ok (cs, rest) ≡ calls_section (n + 1) ls) where
-      pub sheet_rest : nothing_left rest ≡ false → Err Rest ≡ sheet_of bs
-      sheet_rest e = sym (cond-false _ (Ok (o, cs)) _ e) ∙ ap (finish o) called ∙ calls_are
-
-      pub sheet_whole : nothing_left rest ≡ true → Ok (o, cs) ≡ sheet_of bs
-      sheet_whole e = sym (cond-true _ _ (Err Rest) e) ∙ ap (finish o) called ∙ calls_are

@@ -2,4 +2,3 @@ pub mod Lines
 pub mod Notices
 pub mod Sections
 pub mod Texts
-pub mod Places

@@ -10,6 +10,7 @@
 --   count_of name fs   the count before a name
 use Rattle.std.specs.Prelude.{ℕ, cond, List, [], ◌∷◌, length, Some, None, Ok, Err, Option, Result, ◌==◌, slice_index}
 use Rattle.std.specs.Borrow.{Bor}
+use Rattle.std.specs.Option.{ok_or}
 use Rattle.std.specs.Str.{bytes_eq}
 use Rattle.measures.specs.declared.rate.Rate.{Rate}
 use Rattle.premise.specs.declared.play.Call.{Call}
@@ -41,10 +42,6 @@ then (Err e) f = Err e
 abbrev pub carried : {A E F : Type 0} → (E → F) → Result A E → Result A F
 carried f (Ok a) = Ok a
 carried f (Err e) = Err (f e)
-
-abbrev pub or_fault : {A E : Type 0} → E → Option A → Result A E
-or_fault e (Some a) = Ok a
-or_fault e None = Err e
 
 abbrev pub one_of : List (List ℕ) → Option (List ℕ)
 one_of [] = None
@@ -110,10 +107,10 @@ abbrev pub fault_at : ℕ → ℕ → FieldFault
 fault_at n k = record { line = n; field = k }
 
 abbrev pub number_at : ℕ → ℕ → List ℕ → Result ℕ FieldFault
-number_at n k f = or_fault (fault_at n k) (number_of f)
+number_at n k f = ok_or (number_of f) (fault_at n k)
 
 abbrev pub rate_at : ℕ → ℕ → List ℕ → Result Rate FieldFault
-rate_at n k f = or_fault (fault_at n k) (rate_of f)
+rate_at n k f = ok_or (rate_of f) (fault_at n k)
 
 -- a call's letter is its field 1
 abbrev pub call_told : ℕ → Said → Result Call FieldFault
@@ -122,7 +119,7 @@ call_told n (miss day) = then (number_at n 2 day) (λ d. Ok (call.Miss d))
 call_told n (move customer) = then (number_at n 2 customer) (λ c. Ok (call.Move c))
 
 abbrev pub call_at : ℕ → List (List ℕ) → Result Call LineFault
-call_at n fs = then (or_fault (Form n) (call_of fs)) (λ s. carried Field (call_told n s))
+call_at n fs = then (ok_or (call_of fs) (Form n)) (λ s. carried Field (call_told n s))
 
 abbrev pub opening_told : ℕ → List ℕ × List ℕ × List ℕ × List ℕ × List ℕ → Result Opening FieldFault
 opening_told n t =
@@ -134,7 +131,7 @@ opening_told n t =
     Ok (record { rate = rate; digits = digits; day = day; register = register; customer = customer }))))))
 
 abbrev pub opening_at : ℕ → List (List ℕ) → Result Opening LineFault
-opening_at n fs = then (or_fault (Form n) (premise_of fs)) (λ t. carried Field (opening_told n t))
+opening_at n fs = then (ok_or (premise_of fs) (Form n)) (λ t. carried Field (opening_told n t))
 
 abbrev pub count_of : List ℕ → List (List ℕ) → Option ℕ
 count_of name fs = with (two_of fs) (λ t. cond (bytes_eq t.1 name) (number_of t.0) None)

@@ -5,7 +5,9 @@
 --   premise_section n ls   the opening, and the lines behind its section, whose count line is the line n
 --   calls_section n ls     the calls, and the lines behind their section, whose count line is the line n
 --   sheet_of bs            the opening and the calls of a whole sheet
-use Rattle.std.specs.Prelude.{◌≡◌, ℕ, zero, suc, ◌+◌, Bool, true, false, cond, ◌&&◌, ◌⊎◌, List, [], ◌∷◌, length, drop, Some, None, Ok, Err, codes, Option, Result, MatchResult, nat_le, nat_lt}
+use Rattle.std.specs.Prelude.{◌≡◌, ℕ, zero, suc, ◌+◌, Bool, true, false, cond, ◌&&◌, ◌⊎◌, List, [], ◌∷◌, length, Some, None, Ok, Err, codes, Option, Result, MatchResult, nat_le, nat_lt, vec_items}
+use Rattle.std.specs.Global.{Vec}
+use Rattle.std.specs.Option.{ok_or}
 use Rattle.premise.specs.declared.play.Call.{Call}
 use Rattle.fields.specs.Pieces.{pieces, first_piece}
 use Rattle.sheets.specs.declared.fault.SectionFault.{SectionFault}
@@ -15,13 +17,13 @@ use Rattle.sheets.specs.declared.fault.SheetFault.TheVariants.{Long, Premise, Ca
 use Rattle.premise.specs.declared.opening.Opening.{Opening}
 use Rattle.sheets.specs.declared.line.Line as text
 use Rattle.sheets.specs.declared.reader.Reader.{Reader}
-use Rattle.sheets.specs.Lines.{line_fields, then, carried, or_fault, call_at, opening_at, count_of}
+use Rattle.sheets.specs.Lines.{line_fields, then, carried, call_at, opening_at, count_of}
 
 abbrev pub lines_left : Reader → List (List ℕ)
-lines_left r = pieces 10 (drop r.place.at r.sheet.now)
+lines_left r = pieces 10 r.rest.now
 
 abbrev pub line_at : ℕ → List (List ℕ) → Result (List ℕ × List (List ℕ)) SectionFault
-line_at n ls = or_fault (Missing n) (first_piece ls)
+line_at n ls = ok_or (first_piece ls) (Missing n)
 
 -- the bytes of a line that was read
 abbrev pub line_held : {F : Type 0} → Result text.Line F → Result (List ℕ) F
@@ -33,7 +35,7 @@ within low high (Some n) = cond (nat_le low n && nat_le n high) (Some n) None
 within low high None = None
 
 abbrev pub count_at : ℕ → List ℕ → ℕ → ℕ → List ℕ → Result ℕ SectionFault
-count_at n name low high l = or_fault (Count n) (within low high (count_of name (line_fields l)))
+count_at n name low high l = ok_or (within low high (count_of name (line_fields l))) (Count n)
 
 abbrev pub premise_name : List ℕ
 premise_name = codes "PREMISE"
@@ -92,9 +94,13 @@ ReadTo r expected a = Ok (a, lines_left r) ≡ expected
 abbrev pub OrMemory : {A : Type 0} → Result A SectionFault → SectionFault → Type 0
 OrMemory expected e = (e ≡ Memory) ⊎ (Err e ≡ expected)
 
+-- reading that ended found the calls that the section says, or had no memory
+abbrev pub CallsRead : Reader → Result (List Call × List (List ℕ)) SectionFault → Result (Vec Call) SectionFault → Type 0
+CallsRead r expected result = MatchResult result (λ v. ReadTo r expected (vec_items v)) (OrMemory expected)
+
 -- reading that took n lines, or ended by a fault, did as the section says
 abbrev pub SectionRead : {A F : Type 0} → Reader → ℕ → Result (A × List (List ℕ)) F → Result A F → Type 0
-SectionRead r n expected result = MatchResult result (λ a. ReadTo r expected a × (r.place.line ≡ n)) (λ e. Err e ≡ expected)
+SectionRead r n expected result = MatchResult result (λ a. ReadTo r expected a × (r.line ≡ n)) (λ e. Err e ≡ expected)
 
 -- a whole sheet was read as the rules say, or there was no memory for its calls
 abbrev pub SheetRead : List ℕ → Opening → List Call → Type 0
@@ -103,7 +109,7 @@ SheetRead bs o cs = Ok (o, cs) ≡ sheet_of bs
 abbrev pub SheetRefused : List ℕ → SheetFault → Type 0
 SheetRefused bs e = (e ≡ Calls Memory) ⊎ (Err e ≡ sheet_of bs)
 
--- a refusal puts the place back
+-- a refusal puts the reader back
 abbrev pub Back : {A F : Type 0} → Result A F → Reader → Reader → Type 0
 Back (Ok _) before after = Unit {0}
 Back (Err _) before after = after ≡ before

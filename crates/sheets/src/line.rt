@@ -44,10 +44,7 @@ pub(crate) struct PremiseLine<'a> {
 fn one_field<'a>(bytes: &'a [u8]) -> Option<&'a [u8]>
     ensures { field_held result ≡ one_of (line_fields bytes.now) }
 {
-    match cut(bytes, SPACE) {
-        Some(_) => None,
-        None => Some(bytes),
-    }
+    cut(bytes, SPACE).is_none().then_some(bytes)
 }
 
 fn two_fields<'a>(bytes: &'a [u8]) -> Option<(&'a [u8], &'a [u8])>
@@ -62,16 +59,13 @@ fn call_line<'a>(line: &'a [u8]) -> Option<CallLine<'a>>
     ensures { call_line_held result ≡ call_of (line_fields line.now) }
 {
     let (letter, rest) = cut(line, SPACE)?;
-    if letter.len() != 1 {
-        return None;
-    }
-    match letter[0] as char {
-        'R' => {
+    match letter {
+        [b'R'] => {
             let (day, register) = two_fields(rest)?;
             Some(CallLine::Read(day, register))
         }
-        'M' => Some(CallLine::Miss(one_field(rest)?)),
-        'C' => Some(CallLine::Move(one_field(rest)?)),
+        [b'M'] => Some(CallLine::Miss(one_field(rest)?)),
+        [b'C'] => Some(CallLine::Move(one_field(rest)?)),
         _ => None,
     }
 }
@@ -121,18 +115,17 @@ impl Line<'_> {
     pub(crate) fn call(self) -> Result<Call, LineFault>
         ensures { result ≡ call_at self.entry.number (line_fields self.entry.text.now) }
     {
-        match call_line(self.text) {
-            Some(CallLine::Read(day, register)) => Ok(Call::Read {
+        match call_line(self.text).ok_or(LineFault::Form(self.number))? {
+            CallLine::Read(day, register) => Ok(Call::Read {
                 day: number_of(day).ok_or(self.fault(2))?,
                 register: number_of(register).ok_or(self.fault(3))?,
             }),
-            Some(CallLine::Miss(day)) => Ok(Call::Miss {
+            CallLine::Miss(day) => Ok(Call::Miss {
                 day: number_of(day).ok_or(self.fault(2))?,
             }),
-            Some(CallLine::Move(customer)) => Ok(Call::Move {
+            CallLine::Move(customer) => Ok(Call::Move {
                 customer: number_of(customer).ok_or(self.fault(2))?,
             }),
-            None => Err(LineFault::Form(self.number)),
         }
     }
 
@@ -154,9 +147,8 @@ impl Line<'_> {
     pub(crate) fn count(self, name: &[u8], low: u32, high: u32) -> Result<u32, SectionFault>
         ensures { result ≡ count_at self.entry.number name.now low high self.entry.text.now }
     {
-        match count_on(self.text, name) {
-            Some(count) if (low..=high).contains(&count) => Ok(count),
-            _ => Err(SectionFault::Count(self.number)),
-        }
+        count_on(self.text, name)
+            .filter(|count| (low..=high).contains(count))
+            .ok_or(SectionFault::Count(self.number))
     }
 }

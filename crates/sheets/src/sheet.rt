@@ -8,7 +8,7 @@ ghost use Rattle.sheets.specs.Sections.{SheetRead, SheetRefused};
 ghost use Rattle.sheets.specs.Texts.{TextOf, NoTwoAlike};
 
 use crate::fault::SheetFault;
-use crate::reader::{Place, Reader};
+use crate::reader::Reader;
 use premise::opening::Opening;
 use premise::play::Call;
 use std::alloc::Global;
@@ -40,8 +40,8 @@ fn read_lines(heap: Global, bytes: &[u8]) -> Result<Sheet, SheetFault>
         return Err(SheetFault::Long);
     }
     let mut reader = Reader {
-        sheet: bytes,
-        place: Place { at: 0, line: 0 },
+        rest: bytes,
+        line: 0,
     };
     let opening = reader.premise().map_err(SheetFault::Premise)?;
     let calls = reader.calls(heap).map_err(SheetFault::Calls)?;

@@ -1,11 +1,11 @@
 // What a program tells of the cases that it compared.
-ghost use Rattle.std.specs.Prelude.{◌≡◌, true, Some, IfOk};
-ghost use Rattle.tallies.specs.Tallies.{is_good};
+ghost use Rattle.std.specs.Prelude.{◌≡◌, true, Some, is_ok, IfOk, if◌then◌else◌};
+ghost use Rattle.tallies.specs.Tallies.{sum_of, is_good};
 ghost use Rattle.tallies.specs.Reports.{line_of};
 
 use crate::tally::Tally;
 use anyhow::anyhow;
-use std::fmt;
+use std::{fmt, io};
 
 // A group of cases, which are sheets or others, and how many of them are as expected.
 #[derive(Clone, Copy)]
@@ -30,6 +30,15 @@ impl fmt::Display for Group<'_> {
             write!(f, "{name}: {compared} {cases}, {differing} not as expected")
         }
     }
+}
+
+// The end of a group: a line for it, and its cases added to all.
+pub fn add_group(rt: &HostRuntime, all: &mut Tally, group: Group<'_>) -> io::Result<()>
+    ensures { all.new ≡ (if is_ok result then sum_of all.old group.entry.tally else all.old) }
+{
+    println!(rt; "{group}")?;
+    *all += group.tally;
+    Ok(())
 }
 
 // The end of a program that compared cases: a line for all of them, and an error unless they are as expected.

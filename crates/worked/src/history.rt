@@ -1,7 +1,5 @@
-// The calls of the worked history, and the book that they are played on.
+// The calls of the worked history.
 use premise::play::Call;
-
-pub const PLACES: usize = 240;
 
 // A short first month that is put off, an estimate, a true-up, an estimate that a read corrects, another customer.
 pub const WORKED: [Call; 9] = [

@@ -1,5 +1,5 @@
 // Histories with answers that were worked out by hand.
-use crate::history::{PLACES, WORKED};
+use crate::history::WORKED;
 use estimating::fixed::Fixed;
 use judging::{ByHalf, Never};
 use ladder::standard::{StandardMethod, standard_method};
@@ -8,12 +8,25 @@ use measures::rate::Rate;
 use premise::calls::settled_alike;
 use premise::file::PremiseFile;
 use premise::happening::Happening;
-use premise::opening::Opening;
+use premise::opening::{MOST_PLACES, Opening};
 use premise::play::Call;
 use std::process::Abort;
 use std::test::Fail;
 
-// Plays the calls on a new file at day 100 with register 0 of customer 7, and compares what they answer.
+// Where the files begin, but for what a test changes.
+const OPENING: Opening = Opening {
+    rate: Rate::E12,
+    digits: 5,
+    day: 100,
+    register: 0,
+    customer: 7,
+};
+
+fn opened(opening: &Opening, book: &[Entry]) -> Result<PremiseFile<StandardMethod, ByHalf>, u8> {
+    PremiseFile::open(standard_method(), ByHalf, opening, book)
+}
+
+// Plays the calls on a new file, and compares what they answer.
 fn answers(
     rt: &(impl Abort + AllocGlobal),
     rate: Rate,
@@ -22,15 +35,11 @@ fn answers(
     calls: &[Call],
     expected: &[Happening],
 ) -> Result<(), Fail> {
-    let mut file = PremiseFile::open(
-        standard_method(),
-        ByHalf,
+    let mut file = opened(
         &Opening {
             rate,
             digits,
-            day: 100,
-            register: 0,
-            customer: 7,
+            ..OPENING
         },
         book,
     )?;
@@ -41,16 +50,11 @@ fn answers(
 
 #[test]
 fn worked_history(rt: HostRuntime) -> Result<(), Fail> {
-    let mut book = [Entry::BLANK; PLACES];
-    let mut file = PremiseFile::open(
-        standard_method(),
-        ByHalf,
+    let mut book = [Entry::BLANK; MOST_PLACES];
+    let mut file = opened(
         &Opening {
-            rate: Rate::E12,
-            digits: 5,
-            day: 100,
             register: 99_500,
-            customer: 7,
+            ..OPENING
         },
         &book,
     )?;
@@ -155,27 +159,17 @@ fn refusals_of_calls(rt: HostRuntime) -> Result<(), Fail> {
 fn refusals_change_nothing(rt: HostRuntime) -> Result<(), Fail> {
     let mut book = [Entry::BLANK; 3];
     let mut other_book = book;
-    let mut file = PremiseFile::open(
-        standard_method(),
-        ByHalf,
+    let mut file = opened(
         &Opening {
-            rate: Rate::E12,
             digits: 4,
-            day: 100,
-            register: 0,
-            customer: 7,
+            ..OPENING
         },
         &book,
     )?;
-    let mut other = PremiseFile::open(
-        standard_method(),
-        ByHalf,
+    let mut other = opened(
         &Opening {
-            rate: Rate::E12,
             digits: 4,
-            day: 100,
-            register: 0,
-            customer: 7,
+            ..OPENING
         },
         &book,
     )?;
@@ -226,18 +220,7 @@ fn no_answer_and_past_the_dial(rt: HostRuntime) -> Result<(), Fail> {
 #[test]
 fn another_book(rt: HostRuntime) -> Result<(), Fail> {
     let mut book = [Entry::BLANK; 3];
-    let mut file = PremiseFile::open(
-        standard_method(),
-        ByHalf,
-        &Opening {
-            rate: Rate::E12,
-            digits: 5,
-            day: 100,
-            register: 0,
-            customer: 7,
-        },
-        &book,
-    )?;
+    let mut file = opened(&OPENING, &book)?;
     let mut longer = [Entry::BLANK; 4];
     assert_eq!(rt; file.miss(&mut longer, 130), Err(11));
     assert_eq!(rt; file.read(&mut longer, 130, 5), Err(11));
@@ -301,15 +284,10 @@ fn long_history(rt: HostRuntime) -> Result<(), Fail> {
         }
     }
     let mut book = [Entry::BLANK; 240];
-    let mut file = PremiseFile::open(
-        standard_method(),
-        ByHalf,
+    let mut file = opened(
         &Opening {
-            rate: Rate::E12,
-            digits: 5,
-            day: 100,
             register: 99_000,
-            customer: 7,
+            ..OPENING
         },
         &book,
     )?;
@@ -321,10 +299,9 @@ fn long_history(rt: HostRuntime) -> Result<(), Fail> {
         Never,
         &Opening {
             rate: Rate::Other,
-            digits: 5,
-            day: 100,
             register: 99_000,
             customer: 9,
+            ..OPENING
         },
         &other_book,
     )?;

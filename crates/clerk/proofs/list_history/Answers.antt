@@ -4,7 +4,8 @@ use Rattle.premise.specs.declared.happening.Happening.{Happening}
 use Rattle.premise.specs.declared.file.PremiseFile.{PremiseFile}
 use Rattle.premise.specs.History.{start}
 use Rattle.judging.specs.declared.ByHalf.{ByHalf}
-use Rattle.clerk.specs.Jobs.{Standard, standard_table, by_half, blank_book}
+use Rattle.ladder.specs.Ladder.{Standard, standard_table}
+use Rattle.clerk.specs.Jobs.{by_half, blank_book}
 use Rattle.clerk.proofs.Counts.{answers_counted}
 use Rattle.clerk.proofs.list_history.Goals as goal
 

@@ -1,18 +1,17 @@
-use Rattle.std.proofs.Common.{◌≡◌, ℕ, ◌+◌, ◌*◌, ◌^◌, ◌<◌, List, length, get_or, take, decimal, sym, ap, ◌∙◌, subst, ⊎_elim, arith}
+use Rattle.std.proofs.Common.{◌≡◌, ℕ, ◌+◌, ◌*◌, ◌^◌, ◌<◌, List, length, get_or, take, decimal, sym, ap, ◌∙◌, subst, arith}
 use Rattle.std.specs.Char.{digit_value}
 use Rattle.std.specs.Str.Parse.{digits_value, AllDigits}
 use Rattle.std.proofs.lemmas.List.{take_all}
-use Rattle.std.proofs.lemmas.Bool.{eqb-true, eqb-false}
 use Rattle.std.proofs.lemmas.Int.Digits.{digits_value_more, digits_more}
 use Rattle.fields.proofs.Texts.{some_byte, zero_alone, digit_below, front_within, text_of_value}
 use Rattle.fields.proofs.number.written.Goals as goal
-use Rattle.fields.proofs.number.written.Goals.{In_ok-digit}
+use Rattle.fields.proofs.number.written.Goals.{In_ok-digit, in_default, in_default-2}
 
-pub returns-then-is_empty : goal.returns-then-is_empty
-returns-then-is_empty c n small e = omega (arith, eqb-true (length c.args.field.now) 0 (sym c.if-is_empty.ensures), some_byte c.args.field.now n small e)
+pub returns-in-empty : goal.returns-in-empty
+returns-in-empty c n small e = omega (arith, some_byte c.args.field.now n small e)
 
-pub returns-then-field-gt1 : goal.returns-then-field-gt1
-returns-then-field-gt1 c n small e = omega (arith, zero_alone c.args.field.now n small e c.if-field-eq48.true)
+pub returns-in-empty-2 : goal.returns-in-empty-2
+returns-in-empty-2 c n small e = omega (arith, zero_alone c.args.field.now n small e (omega arith))
 
 pub returns-in_err-digit : goal.returns-in_err-digit
 returns-in_err-digit c =
@@ -51,6 +50,6 @@ returns c =
     let all : take i bs ≡ bs = take_all i bs c.loop-byte-test.false in
     let ds : AllDigits 10 bs = subst (λ (t : List ℕ). AllDigits 10 t) all c.loop-byte.invariant.1 in
     let v : c.loop-byte.number ≡ digits_value 10 bs = c.loop-byte.invariant.0 ∙ ap (digits_value 10) all in
-    let some : 0 < length bs = omega (arith, eqb-false (length bs) 0 (sym c.if-is_empty.ensures)) in
-    let alone : get_or bs 0 0 ≡ 48 → length bs ≡ 1 = λ z. ⊎_elim (λ h. omega (arith, h.1)) (λ h. absurd (h z)) c.else-field-eq48.either in
+    let some : 0 < length bs = omega arith in
+    let alone : get_or bs 0 0 ≡ 48 → length bs ≡ 1 = elim c.if-field-lt2.branch [ in_default w ↦ λ z. omega (arith, z) | in_default-2 w ↦ λ z. omega (arith, z) ] in
     (text_of_value bs ds some alone (omega (arith, v, c.loop-byte.invariant.2)) ∙ ap decimal (sym v), c.loop-byte.invariant.2)

@@ -1,9 +1,9 @@
-use Rattle.std.proofs.Common.{◌≡◌, ℕ, Ok, sym, refl, ap, ◌∙◌, arith}
+use Rattle.std.proofs.Common.{◌≡◌, Ok, is_ok, sym, ap, ◌∙◌}
 use Rattle.intervals.specs.Intervals.{valid_wh, weights_in, missing_in, checked, left_over}
 use Rattle.intervals.proofs.Known.{Known, known, Left, left_known, answered}
 use Rattle.intervals.proofs.Filling.{accepted, filled_is, filled_up}
 use Rattle.intervals.proofs.fill.fill.Goals as goal
-use Rattle.intervals.proofs.fill.fill.Goals.{In_ok-known, In_ok-left}
+use Rattle.intervals.proofs.fill.fill.Goals.{After-share_out, In_ok-known, In_ok-left}
 
 -- what the checks leave known, and what is left to share
 check_is : (c : In_ok-known) → checked c.args.month.now c.args.intervals.now ≡ Ok tt
@@ -27,14 +27,15 @@ rest c = left_known _ _ _ _ _ (left_is c)
 pub weigh-requires : goal.weigh-requires
 weigh-requires c = (checks_passed (goal.at.weigh-requires c).In_ok-known).usable
 
-pub unreachable-requires : goal.unreachable-requires
-unreachable-requires c =
-    let k = checks_passed (goal.at.unreachable-requires c).In_ok-known in
-    let r = rest (goal.at.unreachable-requires c).In_ok-left in
-    let a = accepted c.args.month.now c.args.intervals.now c.weigh.new.intervals c.in_ok-left.left k r c.weigh.ensures in
-    let b = c.in_default.ensures.answer in
-    let z : ◌≡◌ {A = ℕ} 0 1 = cc in
-    omega arith
+-- what is left is shared out
+shared_out : (c : After-share_out) → Known c.args.month.now c.args.intervals.now → Left c.args.month.now.total (valid_wh c.args.intervals.now) (weights_in c.args.month.now c.args.intervals.now) c.in_ok-left.left → c.share_out.result ≡ Ok tt
+shared_out c k r =
+    c.share_out.ensures.answer ∙ sym (accepted c.args.month.now c.args.intervals.now c.weigh.new.intervals c.in_ok-left.left k r c.weigh.ensures)
+
+pub unwrap-requires : goal.unwrap-requires
+unwrap-requires c =
+    let at = goal.at.unwrap-requires c in
+    ap is_ok (shared_out at.After-share_out (checks_passed at.In_ok-known) (rest at.In_ok-left))
 
 pub returns : goal.returns
 returns c =
@@ -45,10 +46,11 @@ returns c =
     let left = c.in_ok-left.left in
     let k = checks_passed (goal.at.returns c).In_ok-known in
     let r = rest (goal.at.returns c).In_ok-left in
+    let ok = shared_out (goal.at.returns c).After-share_out k r in
     let n : c.count_missing-missing.result ≡ missing_in xs = c.count_missing-missing.ensures ∙ ap missing_in c.in_ok-known.ensures.1 in
-    let shares = c.in-Ok.ensures.after in
+    let shares = rw ok at c.share_out.ensures.after in
     record {
       answer = ap Ok n ∙ sym (answered m xs left (check_is (goal.at.returns c).In_ok-known) (left_is (goal.at.returns c).In_ok-left));
       after = filled_is m xs ws left k r c.weigh.ensures ys shares;
-      promise = filled_up m xs ws left k r c.weigh.ensures ys shares c.count_missing-missing.result n (c.in-Ok.ensures.promise refl);
+      promise = filled_up m xs ws left k r c.weigh.ensures ys shares c.count_missing-missing.result n (c.share_out.ensures.promise (ap is_ok ok));
     }

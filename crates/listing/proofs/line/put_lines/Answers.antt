@@ -1,22 +1,18 @@
-use Rattle.std.proofs.Common.{ℕ, List, length, sym, ◌∙◌, subst, arith}
+use Rattle.std.proofs.Common.{ℕ, List, sym, ◌∙◌, subst, arith}
 use Rattle.std.proofs.lemmas.List.{at_drop_all}
 use Rattle.listing.specs.Listing.{lines}
 use Rattle.listing.specs.Put.{Wrote}
-use Rattle.listing.proofs.Lines.{put_line, times_more, room_for_one}
+use Rattle.listing.proofs.Lines.{put_line, times_more}
 use Rattle.listing.proofs.Puts.{wrote_none}
 use Rattle.listing.proofs.line.put_lines.Goals as goal
-
-pub put_line-requires : goal.put_line-requires
-put_line-requires g c = omega (arith, c.requires, c.loop-record.invariant.1, c.loop-record.invariant.2, room_for_one g.L.Listed.longest c.loop-record.record-index (length c.args.records.now) c.loop-record-test.true)
 
 pub loop-record-preserved : goal.loop-record-preserved
 loop-record-preserved g c =
     let m = g.L.Listed in
     let xs = c.args.records.now in
     let i = c.loop-record.record-index in
-    let p = c.loop-record.page in
-    let room = room_for_one m.longest i (length xs) c.loop-record-test.true in (
-      λ r rest. c.loop-record.invariant.0 r (put_line m.line xs i c.record-item.result c.record-item.is c.loop-record-test.true p c.put_line.new.page r (omega (arith, c.requires, c.loop-record.invariant.1, c.loop-record.invariant.2, room)) c.put_line.ensures.text rest),
+    let p = c.loop-record.page in (
+      λ r rest. c.loop-record.invariant.0 r (put_line m.line xs i c.record-item.result c.record-item.is c.loop-record-test.true p c.put_line.new.page r c.put_line.ensures.text rest),
       omega (arith, c.loop-record.invariant.1, c.put_line.ensures.few, times_more m.longest i),
       c.put_line.ensures.text.long ∙ c.loop-record.invariant.2,
     )

@@ -10,7 +10,7 @@ pub text-requires : goal.text-requires
 text-requires c = omega (arith, c.requires.room, c.number.ensures.put.end, c.number.ensures.long, three_at_most c.args.count (omega (arith, c.requires.count)))
 
 pub returns-clause-text : goal.returns-clause-text
-returns-clause-text c = wrote_then (decimal c.args.count) c.args.name.now c.number.new.self c.text.new.self c.number.ensures c.text.ensures (omega (arith, c.requires.room))
+returns-clause-text c = wrote_then (decimal c.args.count) c.args.name.now c.number.new.self c.text.new.self c.number.ensures c.text.ensures
 
 pub returns-clause-few : goal.returns-clause-few
 returns-clause-few c = omega (arith, c.text.ensures.put.end, c.number.ensures.put.end, three_at_most c.args.count (omega (arith, c.requires.count)))

@@ -21,7 +21,7 @@ returns-clause-after c =
     let letter = c.letter_of.result in
     wrote_in_front (notice_line n) q
     (wrote_as (88 ∷ 32 ∷ letter ∷ fields ns) (notice_line n) q (notice_is n letter c.from.result c.letter_of.ensures c.from.ensures)
-    (wrote_then (88 ∷ 32 ∷ []) (letter ∷ fields ns) c.text.new.self q c.text.ensures c.lettered.ensures (omega arith)))
+    (wrote_then (88 ∷ 32 ∷ []) (letter ∷ fields ns) c.text.new.self q c.text.ensures c.lettered.ensures))
     refl
     (search rules)
 

@@ -13,18 +13,18 @@ loop-r-init g c =
     (ap (λ w. shared_from m.part m.weighs m.given c.args.total w 0 c.args.records.now) c.requires.weights, omega (arith, c.requires.weights), sym (running_start c.args.total c.args.all))
 
 -- the weight of a record that takes part is within what is left
-within : (g : Over) (c : goal.After-weight-weight g) → c.loop-r.weighed + c.weight-weight.result ≤ c.args.all
+within : (g : Over) (c : goal.After-from-weight g) → c.loop-r.weighed + c.from-weight.result ≤ c.args.all
 within g c =
     let m = g.R.Shares in
     let s = left_yes m.part m.weighs c.loop-r.records c.loop-r.r-index c.r-item.result (omega arith) (sym c.takes_part-due.ensures ∙ c.if-due.true) in
-    omega (arith, c.loop-r.invariant.1, s, c.weight-weight.ensures)
+    omega (arith, c.loop-r.invariant.1, s, c.from-weight.ensures, c.weight.ensures)
 
 pub running_total-up_to-requires : goal.running_total-up_to-requires
 running_total-up_to-requires g c = record { total = c.requires.total; part = within g c; limit = c.requires.limit }
 
 pub overflow_sub-up_to : goal.overflow_sub-up_to
 overflow_sub-up_to g c =
-    omega (arith, running_up c.args.total c.args.all c.loop-r.weighed (c.loop-r.weighed + c.weight-weight.result) (omega arith), c.loop-r.invariant.2, c.running_total-up_to.ensures)
+    omega (arith, running_up c.args.total c.args.all c.loop-r.weighed (c.loop-r.weighed + c.from-weight.result) (omega arith), c.loop-r.invariant.2, c.running_total-up_to.ensures)
 
 pub loop-r-preserved : goal.loop-r-preserved
 loop-r-preserved g c =

@@ -3,5 +3,5 @@ use Rattle.demand.proofs.makes.YearBackReadingMethod.answer.Goals as goal
 
 pub returns : goal.returns
 returns c =
-    let e = c.by_year_back.ensures in
-    record { answer = e; meaning = year_back_law c.args.self.now.whose c.args.book.now c.args.question.now c.by_year_back.result e }
+    let e = c.found.ensures in
+    record { answer = e; meaning = year_back_law c.args.self.now.whose c.args.book.now c.args.question.now c.found.result e }

@@ -3,5 +3,5 @@ use Rattle.ladder.proofs.rungs.SeasonalMethod.answer.Goals as goal
 
 pub returns : goal.returns
 returns c =
-    let e = c.by_season.ensures in
-    record { answer = e; meaning = seasonal_law c.args.self.now.whose c.args.book.now c.args.question.now c.by_season.result e }
+    let e = c.basis.ensures in
+    record { answer = e; meaning = seasonal_law c.args.self.now.whose c.args.book.now c.args.question.now c.basis.result e }

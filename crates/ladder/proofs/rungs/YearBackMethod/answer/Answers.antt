@@ -3,5 +3,5 @@ use Rattle.ladder.proofs.rungs.YearBackMethod.answer.Goals as goal
 
 pub returns : goal.returns
 returns c =
-    let e = c.by_year_back.ensures in
-    record { answer = e; meaning = year_back_law c.args.self.now.whose c.args.book.now c.args.question.now c.by_year_back.result e }
+    let e = c.basis.ensures in
+    record { answer = e; meaning = year_back_law c.args.self.now.whose c.args.book.now c.args.question.now c.basis.result e }

@@ -16,7 +16,7 @@ returns-clause-text c =
     let customer = c.args.self.now.customer in
     let p = c.args.page.now in
     let q = c.fields.new.self in
-    subst (λ (ns : List ℕ). Wrote (decimal customer ++ fields ns) p q) c.numbers_of.ensures.value (wrote_then (decimal customer) (fields c.numbers_of.result) c.number.new.self q c.number.ensures c.fields.ensures (omega (arith, c.requires)))
+    subst (λ (ns : List ℕ). Wrote (decimal customer ++ fields ns) p q) c.numbers_of.ensures.value (wrote_then (decimal customer) (fields c.numbers_of.result) c.number.new.self q c.number.ensures c.fields.ensures)
 
 pub returns-clause-few : goal.returns-clause-few
 returns-clause-few c = omega (arith, c.numbers_of.ensures.few, ten_at_most c.args.self.now.customer (omega arith), c.number.ensures.put.end, c.fields.ensures.put.end)

@@ -10,6 +10,6 @@ loop-n-preserved c =
     let ns = c.args.numbers.now in
     let i = c.loop-n.n-index in
     let left = fields_left ns i c.loop-n-test.true in (
-      λ r rest. c.loop-n.invariant.0 r (put_field ns i c.loop-n-test.true c.loop-n.self c.byte.new.self c.number.new.self r (omega (arith, c.loop-n.invariant.1, left)) c.byte.ensures c.number.ensures rest),
+      λ r rest. c.loop-n.invariant.0 r (put_field ns i c.loop-n-test.true c.loop-n.self c.byte.new.self c.number.new.self r c.byte.ensures c.number.ensures rest),
       omega (arith, c.loop-n.invariant.1, left, c.byte.ensures.put.end, c.byte.ensures.long, c.number.ensures.put.end, c.number.ensures.long),
     )
