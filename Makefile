@@ -30,14 +30,16 @@ example-rust: library
 example-python: library
 	python3 examples/bills.py $(out)/libpekstuvna.so
 
-bench = cd bench && PEKSTUVNA_LIB=$(abspath $(out)) CARGO_TARGET_DIR=$(abspath $(out))/bench cargo run --offline --release --quiet
+cargo = cd bench && PEKSTUVNA_LIB=$(abspath $(out)) CARGO_TARGET_DIR=$(abspath $(out))/bench cargo
+bench = $(cargo) run --offline --release --quiet
 
 # A million sheets and more through the library and through a plain Rust program, byte for byte.
 compare: library
 	$(bench) --bin compare
 
-# The time of both on the same input.
+# The time of both on the same input, the whole programs too.
 measure: library crates/pekstuvna/out/pekstuvna
+	$(cargo) build --offline --release --quiet --bins
 	$(bench) --bin measure
 
 # Endless input, no memory and the like.
