@@ -2,18 +2,21 @@
 use std::alloc::Global;
 use std::fmt::Display;
 
-pub fn line<T: Display + Drop>(heap: Global, shown: T) -> anyhow::Result<String> {
+pub(crate) fn line<T: Display + Drop>(heap: Global, shown: T) -> anyhow::Result<String> {
     Ok(format!(in heap; "{shown}\n")?)
 }
 
-pub fn line_or_none<T: Display + Drop>(heap: Global, shown: Option<T>) -> anyhow::Result<String> {
+pub(crate) fn line_or_none<T: Display + Drop>(
+    heap: Global,
+    shown: Option<T>,
+) -> anyhow::Result<String> {
     match shown {
         Some(shown) => line(heap, shown),
         None => line(heap, "none"),
     }
 }
 
-pub fn line_or_refused<T: Display + Drop>(
+pub(crate) fn line_or_refused<T: Display + Drop>(
     heap: Global,
     answer: Result<T, u8>,
 ) -> anyhow::Result<String> {
@@ -23,10 +26,10 @@ pub fn line_or_refused<T: Display + Drop>(
     }
 }
 
-pub fn refused<T: Display + Drop>(heap: Global, number: T) -> anyhow::Result<String> {
+pub(crate) fn refused<T: Display + Drop>(heap: Global, number: T) -> anyhow::Result<String> {
     line(heap, format_args!("N {number}"))
 }
 
-pub fn yes_or_no(yes: bool) -> &'static str {
+pub(crate) fn yes_or_no(yes: bool) -> &'static str {
     if yes { "yes" } else { "no" }
 }

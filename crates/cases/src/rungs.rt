@@ -10,12 +10,12 @@ use lookup::fit::Whose::{Anyone, Customer};
 use measures::entry::{Entry, Kind};
 use std::alloc::Global;
 
-pub fn on_ladder(heap: Global, words: &str, entries: &[&str]) -> anyhow::Result<String> {
+pub(crate) fn on_ladder(heap: Global, words: &str, entries: &[&str]) -> anyhow::Result<String> {
     let book = book_in(heap, entries)?;
     basis_or_none(heap, standard_answer(book.as_slice(), &question_in(words)?))
 }
 
-pub fn on_rung(heap: Global, words: &str, entries: &[&str]) -> anyhow::Result<String> {
+pub(crate) fn on_rung(heap: Global, words: &str, entries: &[&str]) -> anyhow::Result<String> {
     let (number, words) = words.split_once(' ').ok_or_else(wrong)?;
     let [number] = numbers_in::<1>(number)?;
     let book = book_in(heap, entries)?;

@@ -1,4 +1,6 @@
 // What stands on standard input: four lines for the month, and a line for each of its intervals.
+ghost use Rattle.std.specs.Prelude.{◌≡◌};
+
 use desk::fault::Fault;
 use desk::lines::head_and_lines;
 use desk::numbers::{list_of, numbers_of};
@@ -28,7 +30,12 @@ pub struct OwnedMonth {
 }
 
 impl OwnedMonth {
-    pub fn as_month(&self) -> Month<'_> {
+    // The month, with its lists lent.
+    pub(crate) fn as_month(&self) -> Month<'_>
+        ensures numbers { (result.slots ≡ self.now.slots) × (result.first_day ≡ self.now.first_day) × (result.total ≡ self.now.total) }
+        ensures days { (result.weekday.now ≡ self.now.weekday.items) × (result.weekend.now ≡ self.now.weekend.items) }
+        ensures holidays { result.holidays.now ≡ self.now.holidays.items }
+    {
         Month {
             slots: self.slots,
             first_day: self.first_day,
