@@ -49,3 +49,19 @@ fn failed<E: Display + Drop>(rt: &HostRuntime, fault: E) -> ExitCode
     let _ = eprintln!(rt; "{fault}");
     ExitCode::FAILURE
 }
+
+#[cfg(test)]
+mod tests {
+    use super::*;
+
+    fn ended(rt: &HostRuntime, outcome: Result<&'static [u8], u8>) -> ExitCode {
+        run(rt, 7, |_| outcome)
+    }
+
+    // A job that answers ends well, one that is at fault does not.
+    #[test]
+    fn ends(rt: HostRuntime) {
+        assert_eq!(rt; ended(&rt, Ok(b"")), ExitCode::SUCCESS);
+        assert_eq!(rt; ended(&rt, Err(9)), ExitCode::FAILURE);
+    }
+}

@@ -9,7 +9,6 @@ use Rattle.std.proofs.lemmas.Int.Digits.{digits_value_is, number_after_append, n
 use Rattle.std.proofs.lemmas.Str.Parse.{IsNumeralModel, numerals_by_value, tells_digits, digit_at}
 use Rattle.std.proofs.lemmas.Fmt.{decimal_nonempty, decimal_digit, decimal-digits_value, first_decimal, digits_decimal, digits_value-decimal}
 use Rattle.std.proofs.lemmas.Bool.{cases_eq, cond_both, lt-ltb, ltb-true, and_parts}
-use Rattle.std.proofs.lemmas.Str.{digit_value_digit}
 use Rattle.std.proofs.lemmas.Slice.Eq.{bytes_eq-Decides}
 use Rattle.std.specs.Str.{bytes_eq}
 use Rattle.fields.specs.Numbers.{number_of, Tells}
@@ -43,9 +42,6 @@ module _ (bs : List ℕ) (n : ℕ) (small : n < 2 ^ 32) (e : bs ≡ decimal n) w
 
   pub digit_byte : (i : ℕ) → i < length bs → IsInRange 48 57 (get_or bs i 0)
   digit_byte i h = digit_at bs i all_digits h
-
-  pub digit_below : (i : ℕ) → i < length bs → digit_value (get_or bs i 0) < 10
-  digit_below i h = let d = digit_byte i h in omega (arith, digit_value_digit (get_or bs i 0) d, d.1)
 
   pub front_within : (k : ℕ) → digits_value 10 (take k bs) ≤ n
   front_within k = omega (arith, front_value bs k, ap (digits_value 10) e, digits_value-decimal own n (omega arith))

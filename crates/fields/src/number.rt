@@ -18,7 +18,10 @@ fn written(field: &[u8]) -> Option<u32>
     }
     let mut number: u32 = 0;
     for byte in field {
-        let digit = char::from(*byte).to_digit(10)?;
+        if !byte.is_ascii_digit() {
+            return None;
+        }
+        let digit = u32::from(*byte - b'0');
         number = number.checked_mul(10)?.checked_add(digit)?;
     }
     Some(number)

@@ -16,6 +16,8 @@ pub const LEAST_BUFFER: usize = 16_384;
 pub const MOST_LINES: usize = 240;
 
 // Writes what happened and the entries to the front of a buffer, and answers how many bytes that is.
+// Not inlined: in one function with the play of the calls, the loops of both are slower.
+#[inline(never)]
 pub fn list(happened: &[Happening], entries: &[Entry], buffer: &mut [u8]) -> Result<usize, u8>
     ensures answer { result ≡ listed happened.now entries.now (length buffer.old) }
     ensures after { buffer.new ≡ (if is_ok result then in_front (listing happened.now entries.now) buffer.old else buffer.old) }

@@ -11,12 +11,13 @@ pub(crate) struct Page<'a> {
     ghost within: { end ≤ length buffer.now },
 }
 
+// What writes a line is written out where it is called, so that the end of the text need not be read back after each byte.
 impl Page<'_> {
     ghost use Rattle.std.specs.Prelude.{◌+◌, [], ◌∷◌};
     ghost use Rattle.listing.specs.Listing.{fields};
     ghost use Rattle.listing.specs.Put.{Wrote};
 
-    #[inline]
+    #[inline(always)]
     pub(crate) fn byte(&mut self, byte: u8)
         requires { self.old.end + 1 ≤ length self.old.buffer.now }
         ensures { Wrote (byte ∷ []) self.old self.new }
@@ -35,7 +36,7 @@ impl Page<'_> {
     }
 
     // A number in decimal.
-    #[inline]
+    #[inline(always)]
     pub(crate) fn number(&mut self, n: u32)
         requires { self.old.end + length (decimal n) ≤ length self.old.buffer.now }
         ensures { Wrote (decimal n) self.old self.new }
@@ -46,7 +47,7 @@ impl Page<'_> {
     }
 
     // The fields of a line after its first, and the end of the line.
-    #[inline]
+    #[inline(always)]
     pub(crate) fn fields(&mut self, numbers: &[u32])
         requires { self.old.end + length (fields numbers.now) ≤ length self.old.buffer.now }
         ensures { Wrote (fields numbers.now) self.old self.new }
@@ -59,6 +60,7 @@ impl Page<'_> {
     }
 
     // A line of a letter and numbers.
+    #[inline(always)]
     pub(crate) fn lettered(&mut self, letter: u8, numbers: &[u32])
         requires { self.old.end + (1 + length (fields numbers.now)) ≤ length self.old.buffer.now }
         ensures { Wrote (letter ∷ fields numbers.now) self.old self.new }
