@@ -11,7 +11,8 @@ pub fn cut<'a>(bytes: &'a [u8], separator: u8) -> Option<(&'a [u8], &'a [u8])>
     Some((&bytes[..at], &bytes[at + 1..]))
 }
 
-// Where the first separator stands.
+// Where the first separator stands. Not inlined: within a reader of lines, what it counts would be kept in memory.
+#[inline(never)]
 fn place_of(bytes: &[u8], separator: u8) -> Option<usize>
     ensures { result ≡ position (λ b. b == separator) bytes.now }
 {

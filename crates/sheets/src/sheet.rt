@@ -24,8 +24,6 @@ pub struct Sheet {
 }
 
 // The opening and the calls whose text the bytes are.
-// Not inlined: in one function with the play of the calls, the loops of both are slower.
-#[inline(never)]
 pub fn read_sheet(heap: Global, bytes: &[u8]) -> Result<Sheet, SheetFault>
     ensures answer { MatchResult result (λ s. SheetRead bytes.now s.opening s.calls.items) (SheetRefused bytes.now) }
     ensures text { IfOk result (λ s. TextOf bytes.now s.opening s.calls.items) }
